@@ -1,0 +1,15 @@
+pub mod Lists
+pub mod Policy
+pub mod Contain
+pub mod Rule
+pub mod Refusal
+pub mod Request
+pub mod Explain
+pub mod Sound
+pub mod Command
+pub mod History
+pub mod Bits
+pub mod Image
+pub mod Index
+pub mod Desk
+pub mod House
