@@ -166,7 +166,8 @@ impl Machine {
         self.index_line()?;
         line(OUT_OF_RANGE, !is_element_id(id) || !(1..=5).contains(&kind) || !is_element_id(container))?;
         let (id, kind, container) = (id as u16, kind as u8, container as u16);
-        line(ALREADY_THERE, !self.is_absent(id))?;
+        let relation_there = self.policy.assignments.contains(&(id, container));
+        line(ALREADY_THERE, !self.is_absent(id) || relation_there)?;
         let container_kind = self.policy.kind(container).ok_or(ABSENT)?;
         line(KIND, kind == CLASS || !may_be_assigned(kind, container_kind))?;
         line(NO_ROOM, self.policy.assignments.len() >= MOST_ASSIGNMENTS)?;

@@ -2,20 +2,19 @@
 -- Assumes nothing.
 use mathlib.Core.Path.{_≡_, refl, sym, ap, subst₂}
 use mathlib.Core.Bool.{Bool, true, false, not, cond, _&&_, _||_}
-use mathlib.Core.List.{List, [], _∷_, _++_, map}
+use mathlib.Core.List.{List, [], _∷_}
 use mathlib.Core.Logic.{_⊎_, inl, inr}
-use Prim.Native.Nat.{ℕ, zero, suc, _+_, _≤_, _<_}
+use Prim.Native.Nat.{ℕ, zero, suc, _≤_, _<_}
 use native.Mathlib.Omega.{arith}
-use native.Mathlib.Decide.{ℕ-discrete}
-use borrow.Author.Tests.{not-true, not-false, eqb-true, eqb-false, eq-eqb, ne-eqb}
+use borrow.Author.Tests.{not-true, eqb-true}
 use lib.Dec.{eqb}
 use lib.ListN.{length}
 use Rattle.model.specs.Lists.{In, first, later, anyOf, allOf, those}
 use Rattle.model.specs.Policy.{Element, Assignment, Policy, user, user-attribute, object, object-attribute, class, allowed, kindIn, kindOf}
-use Rattle.model.specs.Contain.{Assigned, Within, itself, above, Chain, link, within, contained}
+use Rattle.model.specs.Contain.{Assigned, Within, itself, above, Chain, link, contained}
 use Rattle.model.specs.Rule.{classes}
-use Rattle.model.specs.Sound.{Sound, assignmentPairs, namesRight, noCycle, assignedOrClass, allAssigned}
-use Rattle.model.proofs.Truth.{clash, and-cut, and-left, or-cut, Tested, passes, fails, tested, any-found, all-in, all-of, in-those, in-map}
+use Rattle.model.specs.Sound.{Sound, assignmentPairs, pairsFit, noCycle, assignedOrClass, allAssigned}
+use Rattle.model.proofs.Truth.{clash, and-left, or-cut, Tested, passes, fails, tested, any-found, all-in, all-of, in-those, in-map}
 use Rattle.model.proofs.Contained.{within-trans, within-says, within-when}
 
 -- no chain of assignments returns to its start
@@ -183,7 +182,7 @@ module _ (p : Policy) (s : Sound p) where
     assigned : Assigned (p .assignments) (e .id) (next .id)
 
   onward : (e : Element) → In e (p .elements) → eqb (e .kind) class ≡ false → Onward e
-  unfolding allAssigned assignedOrClass namesRight assignmentPairs kindOf
+  unfolding allAssigned assignedOrClass pairsFit assignmentPairs kindOf
   onward e i d = go (or-cut (eqb (e .kind) class) (anyOf (λ a. eqb (a .child) (e .id)) (p .assignments)) (all-in (assignedOrClass p) (s .assigned) i))
     where
       pairs : allOf (assignmentPairs p) (p .assignments) ≡ true

@@ -1,18 +1,18 @@
 -- The containment that is computed is the one that is stated: `within l x y` is true exactly if x is within y, for every list of
 -- assignments, whatever its ids, cycles included.
 -- Assumes nothing.
-use mathlib.Core.Path.{_≡_, refl, sym, ap, _∙_}
-use mathlib.Core.Bool.{Bool, true, false, not, cond, _&&_, _||_}
+use mathlib.Core.Path.{_≡_, refl, ap}
+use mathlib.Core.Bool.{Bool, true, false, not, cond, _&&_}
 use mathlib.Core.List.{List, [], _∷_, _++_}
 use mathlib.Core.Logic.{_⊎_, inl, inr}
-use Prim.Native.Nat.{ℕ, zero, suc, _+_, _≤_, _<_}
+use Prim.Native.Nat.{ℕ, zero, suc, _≤_, _<_}
 use native.Mathlib.Omega.{arith}
-use borrow.Author.Tests.{not-true, not-false}
+use borrow.Author.Tests.{not-true}
 use lib.ListN.{length}
-use Rattle.model.specs.Lists.{In, first, later, anyOf, empty, member}
+use Rattle.model.specs.Lists.{In, first, later, empty, member}
 use Rattle.model.specs.Policy.{Assignment}
-use Rattle.model.specs.Contain.{Assigned, Within, itself, above, Chain, link, further, climbed, within}
-use Rattle.model.proofs.Truth.{clash, and-cut, and-join, or-right, Tested, passes, fails, tested, in-left, in-right, in-cons, in-append, member-in, in-member}
+use Rattle.model.specs.Contain.{Assigned, Within, itself, above, further, climbed, within}
+use Rattle.model.proofs.Truth.{clash, and-cut, in-left, in-right, in-cons, in-append, member-in, in-member}
 
 -- a chain goes on
 pub within-trans : {l : List Assignment} {x y z : ℕ} → Within l x y → Within l y z → Within l x z

@@ -1,6 +1,12 @@
 pub mod Definitions
 pub mod SmallHouse
 pub mod Truth
+pub mod Refusals
+pub mod Order
+pub mod Groups
 pub mod Contained
 pub mod Chains
-pub mod Refusals
+pub mod Decisions
+pub mod Image
+pub mod Indexed
+pub mod Commands

@@ -1,14 +1,13 @@
 -- "each is given exactly when its line holds and none before it does": one law for the lines of every call.
 -- Assumes nothing.
 use mathlib.Core.Path.{_≡_, refl, sym, ap, _∙_}
-use mathlib.Core.Bool.{Bool, true, false, not, cond}
+use mathlib.Core.Bool.{Bool, true, false, not}
 use mathlib.Core.List.{List, [], _∷_, _++_}
-use Prim.Native.Nat.{ℕ, zero, suc}
+use Prim.Native.Nat.{ℕ}
 use native.Mathlib.Omega.{arith}
-use borrow.Author.Tests.{not-true, eqb-true}
 use lib.Dec.{eqb}
 use Rattle.model.specs.Lists.{allOf}
-use Rattle.model.specs.Refusal.{Line, First, now, next, None, end, past, refusal, Answer, refused, accepted, answer}
+use Rattle.model.specs.Refusal.{Line, First, now, next, None, end, past, refusal, refused, accepted, answer}
 use Rattle.model.proofs.Truth.{clash, and-left, and-right}
 
 -- the lines' numbers are not 0
@@ -66,6 +65,31 @@ module _ {A : Type 0} (a : A) where
       go : Judged ls → None ls × (b ≡ a)
       go (by {n = m} f) = let q : refused m ≡ answer ls a = sym (first-refused f) in let z : _≡_ {A = ℕ} 0 1 = cc in absurd (omega arith)
       go (clear f) = let q : accepted a ≡ answer ls a = sym (none-accepted f) in (f, cc)
+
+-- two answers by the same lines are the same where they are the same if no line holds
+pub answer-alike : {A : Type 0} (ls : List Line) {a b : A} → (None ls → a ≡ b) → answer ls a ≡ answer ls b
+answer-alike ls {a} {b} h = go (judged ls)
+  where
+    go : Judged ls → answer ls a ≡ answer ls b
+    go (by f) = first-refused a f ∙ sym (first-refused b f)
+    go (clear f) = none-accepted a f ∙ ap accepted (h f) ∙ sym (none-accepted b f)
+
+-- more lines behind those of a call: a refusal stays, and where there is none the further lines decide
+module _ {A B : Type 0} (a : A) (b : B) (more : List Line) where
+  pub refused-still : (ls : List Line) {n : ℕ} → answer ls a ≡ refused n → answer (ls ++ more) b ≡ refused n
+  refused-still ls e = first-refused b (go (refused-first a ls e))
+    where
+      go : {n : ℕ} {ls : List Line} → First n ls → First n (ls ++ more)
+      go (now q h) = now q h
+      go (next h f) = next h (go f)
+
+  pub accepted-then : (ls : List Line) {c : A} → answer ls a ≡ accepted c → answer (ls ++ more) b ≡ answer more b
+  unfolding answer
+  accepted-then ls e = go (accepted-none a ls e .0)
+    where
+      go : {ls : List Line} → None ls → answer (ls ++ more) b ≡ answer more b
+      go end = refl
+      go (past h f) = rw h (go f)
 
 -- the number of the lines, where none is numbered 0: 0 exactly if no line holds, else the number of the first that does
 pub first-not-0 : {ls : List Line} → numbered ls ≡ true → First 0 ls → ⊥

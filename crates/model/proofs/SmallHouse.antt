@@ -1,8 +1,7 @@
 -- The small house: K1 to K12 of 01 as one table under one statement; and 01's two images and its desk example.
 -- Assumes nothing.
 use mathlib.Core.Path.{_≡_, refl}
-use mathlib.Core.Bool.{Bool, true, false}
-use mathlib.Core.List.{List, [], _∷_, map}
+use mathlib.Core.List.{[], _∷_, map}
 use Rattle.model.specs.Policy.{Policy, emptyPolicy, class}
 use Rattle.model.specs.Contain.{contained}
 use Rattle.model.specs.Image.{imageOf, readImage}
@@ -10,7 +9,7 @@ use Rattle.model.specs.Refusal.{accepted}
 use Rattle.model.specs.Desk.{desk}
 use Rattle.model.specs.Sound.{Sound}
 use Rattle.model.specs.Index.{indexBit}
-use Rattle.model.specs.House.{house, cases, answerTo, answerIn, asks, denies, _is_}
+use Rattle.model.specs.House.{house, cases, answerTo, answerIn, a-request, denies, _is_}
 use Rattle.model.proofs.Definitions.{definitions}
 
 pub small-house : map (answerIn contained) cases ≡ map (λ k. k .outcome) cases
@@ -23,7 +22,7 @@ unfolding definitions
 small-house-indexed = refl
 
 -- "copy with {0} on the object and {1} on the attribute is a deny": 5 holds 0 over 9 and 1 over 7, and neither alternative's rights
-pub mixed-copy-denied : answerTo contained house (asks (record { process = 1; operation = 6; first = 9; second = 7; third = 0 })) ≡ denies 1 2
+pub mixed-copy-denied : answerTo contained house (a-request (record { process = 1; operation = 6; first = 9; second = 7; third = 0 })) ≡ denies 1 2
 unfolding definitions
 mixed-copy-denied = refl
 

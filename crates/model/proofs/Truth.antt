@@ -1,15 +1,15 @@
 -- Laws of the tests on lists: what holds of some, of each, of those that pass.
 -- Assumes nothing.
-use mathlib.Core.Path.{_≡_, refl, sym, ap, _∙_}
+use mathlib.Core.Path.{_≡_, refl, sym, ap₂}
 use mathlib.Core.Bool.{Bool, true, false, not, cond, _&&_, _||_, or-true, or-assoc, and-assoc}
 use mathlib.Core.List.{List, [], _∷_, _++_, map}
 use mathlib.Core.Logic.{_⊎_, inl, inr}
-use Prim.Native.Nat.{ℕ, zero, suc, _<_}
+use Prim.Native.Nat.{ℕ, _≤_}
 use native.Mathlib.Omega.{arith}
 use borrow.Author.Tests.{eqb-true, eq-eqb}
 use lib.Dec.{eqb}
 use lib.ListN.{length, getD}
-use Rattle.model.specs.Lists.{In, first, later, anyOf, allOf, those, lessFirst, empty, tabulate, member}
+use Rattle.model.specs.Lists.{In, first, later, anyOf, allOf, those, lessFirst, empty, member}
 
 pub clash : {b : Bool} → b ≡ true → b ≡ false → ⊥
 clash e f = let z : _≡_ {A = ℕ} 0 1 = cc in omega arith
@@ -47,6 +47,19 @@ pub same-truth : (a b : Bool) → (a ≡ true → b ≡ true) → (b ≡ true �
 same-truth true b f g = sym (f refl)
 same-truth false true f g = g refl
 same-truth false false f g = refl
+
+-- what is false is not true
+pub false-not : (b : Bool) → b ≡ false → b ≡ true → ⊥
+false-not b e t = clash t e
+
+-- what does not hold fails
+pub fails-when : (b : Bool) → (b ≡ true → ⊥) → b ≡ false
+fails-when true h = absurd (h refl)
+fails-when false h = refl
+
+-- what fails is so when negated
+pub not-so : (b : Bool) → b ≡ false → not b ≡ true
+not-so b e = rw e
 
 -- a test is true or false
 pub data Tested (b : Bool) : Type 0 where
@@ -201,3 +214,58 @@ member-in {x} l e = let f = any-found (eqb x) l e in let q : x ≡ f .it = eqb-t
 pub in-member : {x : ℕ} {l : List ℕ} → In x l → member x l ≡ true
 unfolding member
 in-member {x} i = any-in (eqb x) i (eq-eqb x x refl)
+
+module _ {A : Type 0} where
+  -- nothing stands in no list
+  pub none-in : {a : A} → In a [] → ⊥
+  unfolding empty
+  none-in i = clash refl (not-empty i)
+
+  -- a list that is not empty has a first
+  pub some-in : (l : List A) → not (empty l) ≡ true → (a : A) × In a l
+  unfolding empty
+  some-in [] e = absurd (clash e refl)
+  some-in (a ∷ l) e = (a, first)
+
+  -- what holds of the first and of each of the rest holds of each
+  pub each-of : (P : A → Type 0) {b : A} {l : List A} → P b → ((a : A) → In a l → P a) → (a : A) → In a (b ∷ l) → P a
+  each-of P h k a first = h
+  each-of P h k a (later i) = k a i
+
+  -- a list in which something stands is not empty
+  pub in-some : {a : A} {l : List A} → In a l → 1 ≤ length l
+  in-some first = omega arith
+  in-some (later i) = omega arith
+
+  -- what stands behind a list, in two
+  pub at-length : (l : List A) (a : A) (m : List A) (d : A) → getD (l ++ a ∷ m) (length l) d ≡ a
+  at-length [] a m d = refl
+  at-length (b ∷ l) a m d = at-length l a m d
+
+-- tests that agree on each of a list
+module _ {A : Type 0} {f g : A → Bool} where
+  pub any-alike : (l : List A) → ((a : A) → In a l → f a ≡ g a) → anyOf f l ≡ anyOf g l
+  unfolding anyOf
+  any-alike [] h = refl
+  any-alike (a ∷ l) h = ap₂ (λ s t. s || t) (h a first) (any-alike l (λ b i. h b (later i)))
+
+  pub all-alike : (l : List A) → ((a : A) → In a l → f a ≡ g a) → allOf f l ≡ allOf g l
+  unfolding allOf
+  all-alike [] h = refl
+  all-alike (a ∷ l) h = ap₂ (λ s t. s && t) (h a first) (all-alike l (λ b i. h b (later i)))
+
+  pub those-alike : (l : List A) → ((a : A) → In a l → f a ≡ g a) → those f l ≡ those g l
+  unfolding those
+  those-alike [] h = refl
+  those-alike (a ∷ l) h = ap₂ (λ t r. cond t (a ∷ r) r) (h a first) (those-alike l (λ b i. h b (later i)))
+
+-- functions that agree on each of a list
+module _ {A B : Type 0} where
+  pub map-alike : {f g : A → B} (l : List A) → ((a : A) → In a l → f a ≡ g a) → map f l ≡ map g l
+  map-alike [] h = refl
+  map-alike (a ∷ l) h = ap₂ _∷_ (h a first) (map-alike l (λ b i. h b (later i)))
+
+-- what is asked behind a test needs to agree only where the test passes
+pub and-alike : (t : Bool) {a b : Bool} → (t ≡ true → a ≡ b) → (t && a) ≡ (t && b)
+and-alike true h = h refl
+and-alike false h = refl

@@ -1,15 +1,15 @@
 -- 01, "Commands", with the refusal lines of each, lowest first.
 -- Assumes nothing.
-use mathlib.Core.Bool.{Bool, true, false, not, cond, _&&_, _||_}
-use mathlib.Core.List.{List, [], _∷_, _++_}
+use mathlib.Core.Bool.{Bool, true, not, cond, _&&_, _||_}
+use mathlib.Core.List.{List, [], _∷_}
 use Prim.Native.Nat.{ℕ, _^_}
 use lib.Dec.{eqb, leb, ltb}
 use lib.ListN.{length}
 use Rattle.model.specs.Lists.{anyOf, allOf, those, lessFirst, member, same, put}
-use Rattle.model.specs.Policy.{Element, Assignment, Association, Prohibition, Process, Policy, class, by-process, isElementId, isProcessId, isKind, isAttributeKind, isSort, isForm, allowed, emptyPolicy, withElements, withAssignments, withAssociations, withProhibitions, withProcesses, elementKey, assignmentFields, associationFields, prohibitionFields, processKey, kindOf, isThere, userOf, isProcess, isAssigned, hasAssociation, hasProhibition, user}
+use Rattle.model.specs.Policy.{Association, Prohibition, Policy, class, by-process, isElementId, isProcessId, isKind, isAttributeKind, isSort, isForm, allowed, withElements, withAssignments, withAssociations, withProhibitions, withProcesses, elementKey, assignmentFields, associationFields, prohibitionFields, processKey, kindOf, isThere, isProcess, isAssigned, hasAssociation, hasProhibition, user}
 use Rattle.model.specs.Contain.{contained}
-use Rattle.model.specs.Sound.{mostAssignments, mostAssociations, mostProhibitions, subjectInRange, listed, listsRight, subjectThere, subjectFits, associationPairs}
-use Rattle.model.specs.Refusal.{Line, _when_, refusal, Answer, answer, Lent, noTable, badIndex, proper}
+use Rattle.model.specs.Sound.{mostAssignments, mostAssociations, mostProhibitions, subjectInRange, listed, listsFit, subjectThere, subjectOfKind, associationPairs}
+use Rattle.model.specs.Refusal.{Line, _when_, refusal, Lent, noTable, badIndex, proper}
 
 -- "Create class(id). Create element(id, kind, container) .. Assign, deassign(child, container). Delete element(id), with its own
 -- assignments. Create and delete association, exact triple. Create and delete prohibition, exact fields. Start process(id, user). End
@@ -53,11 +53,11 @@ absentIn p b = not (subjectThere p b) || not (allOf (isThere p) (listed b))
 
 -- 5: the subject or a listed attribute is of another kind
 unfoldable pub wrongKindIn : Policy → Prohibition → Bool
-wrongKindIn p b = not (subjectFits p b) || not (allOf (λ x. isAttributeKind (kindOf p x)) (listed b))
+wrongKindIn p b = not (subjectOfKind p b) || not (allOf (λ x. isAttributeKind (kindOf p x)) (listed b))
 
 -- 6: "empty right set; list too long or not strictly rising; both lists empty"
 unfoldable pub illFormed : Prohibition → Bool
-illFormed b = eqb (b .rights) 0 || not (listsRight b)
+illFormed b = eqb (b .rights) 0 || not (listsFit b)
 
 -- 8: "it is the child's only assignment"
 unfoldable pub onlyOne : Policy → (child : ℕ) → Bool
@@ -98,7 +98,7 @@ commandLines m p (create-class x) =
 commandLines m p (create-element x k y) =
     (1 when noTable m)
     ∷ (2 when badIndex m || not (isElementId x) || not (isKind k) || not (isElementId y))
-    ∷ (3 when isThere p x)
+    ∷ (3 when isThere p x || isAssigned p x y)
     ∷ (4 when not (isThere p y))
     ∷ (5 when eqb k class || not (allowed k (kindOf p y)))
     ∷ (10 when fullOfAssignments p)
@@ -171,12 +171,9 @@ commandLines m p (end-process i) =
     ∷ (9 when processInUse p i)
     ∷ []
 
--- The call new makes the empty policy; its only line is the memory's length.
-abbrev pub newLines : (rightLength : Bool) → List Line
-newLines rightLength = (1 when not rightLength) ∷ []
-
-unfoldable pub newPolicy : (rightLength : Bool) → Answer Policy
-newPolicy rightLength = answer (newLines rightLength) emptyPolicy
+-- The line of the call new: the memory's length alone.
+abbrev pub newLines : (lengthFits : Bool) → List Line
+newLines lengthFits = (1 when not lengthFits) ∷ []
 
 -- A command given a table and an index of the right length: its refusal number, 0 where it is accepted.
 unfoldable pub commandRefusal : Policy → Command → ℕ
@@ -195,8 +192,8 @@ after p (delete-element x) =
     (those (λ a. not (eqb x (a .child))) (p .assignments))
 after p (create-association a) = withAssociations p (put associationFields a (p .associations))
 after p (delete-association a) = withAssociations p (lessFirst (λ b. same (associationFields a) (associationFields b)) (p .associations))
-after p (create-prohibition a) = withProhibitions p (put prohibitionFields a (p .prohibitions))
-after p (delete-prohibition a) = withProhibitions p (lessFirst (λ b. same (prohibitionFields a) (prohibitionFields b)) (p .prohibitions))
+after p (create-prohibition b) = withProhibitions p (put prohibitionFields b (p .prohibitions))
+after p (delete-prohibition b) = withProhibitions p (lessFirst (λ c. same (prohibitionFields b) (prohibitionFields c)) (p .prohibitions))
 after p (start-process i u) = withProcesses p (put processKey (record { id = i; owner = u }) (p .processes))
 after p (end-process i) = withProcesses p (lessFirst (λ q. eqb i (q .id)) (p .processes))
 

@@ -1,9 +1,8 @@
 -- 01, "Containment and the decision", first paragraph: what is within what.
 -- Assumes nothing.
-use mathlib.Core.Bool.{Bool, true, false, not, cond, _&&_}
+use mathlib.Core.Bool.{Bool, not, cond, _&&_}
 use mathlib.Core.List.{List, [], _∷_, _++_}
 use Prim.Native.Nat.{ℕ, zero, suc}
-use lib.Dec.{eqb}
 use lib.ListN.{length}
 use Rattle.model.specs.Lists.{In, empty, member}
 use Rattle.model.specs.Policy.{Assignment, Policy}
@@ -12,7 +11,8 @@ use Rattle.model.specs.Policy.{Assignment, Policy}
 abbrev pub Assigned : List Assignment → (x y : ℕ) → Type 0
 Assigned l x y = In (record { child = x; container = y }) l
 
--- "x is *within* y if x is y or a chain of assignments leads from x to y."
+-- "x is *within* y if x is y or a chain of assignments leads from x to y.": `itself`, x is within x; `above`, where x is assigned to y and y is
+-- within z, x is within z
 pub data Within (l : List Assignment) : ℕ → ℕ → Type 0 where
   itself : {x : ℕ} → Within l x x
   above : {x y z : ℕ} → Assigned l x y → Within l y z → Within l x z

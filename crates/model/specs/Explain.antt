@@ -1,14 +1,14 @@
 -- 01, "Containment and the decision", the explanation call: "answers the same as the plain decision and fills lent rows".
 -- Assumes nothing.
-use mathlib.Core.Bool.{Bool, true, false, not, cond, _&&_}
+use mathlib.Core.Bool.{Bool, not, cond}
 use mathlib.Core.List.{List, [], _∷_, _++_, map}
-use Prim.Native.Nat.{ℕ, zero, suc, pred}
-use lib.Dec.{eqb, ltb}
-use lib.ListN.{length, drop, getD}
-use Rattle.model.specs.Lists.{anyOf, allOf, those, empty, leastOf, lowestOf}
+use Prim.Native.Nat.{ℕ, suc, pred}
+use lib.Dec.{ltb}
+use lib.ListN.{length, getD}
+use Rattle.model.specs.Lists.{those, empty, leastOf, lowestOf}
 use Rattle.model.specs.Policy.{Association, Policy, by-user, by-process, by-attribute, associationFields, userOf}
 use Rattle.model.specs.Rule.{classesOf, gives, givenIn, heldBy, through}
-use Rattle.model.specs.Refusal.{Line, _when_, Answer, refused, accepted, answer}
+use Rattle.model.specs.Refusal.{Line, _when_, Answer, answer}
 use Rattle.model.specs.Request.{Request, Alternative, Asked, askedOf, alternativesOf, Verdict, grant, deny, permitted, verdict, outOfRange, absent, mismatched}
 
 -- A grant row has cause 0, the class as its number, and the association; a deny row has zeros for the association.
@@ -33,11 +33,6 @@ through-process = 3
 
 abbrev pub through-attribute : ℕ
 through-attribute = 4
-
--- the first of a list, 0 where it is empty
-abbrev pub firstOr0 : List ℕ → ℕ
-firstOr0 [] = 0
-firstOr0 (x ∷ l) = x
 
 -- the least of a list, 0 where it is empty
 abbrev pub leastOr0 : List ℕ → ℕ
@@ -80,6 +75,7 @@ module _ (W : ℕ → ℕ → Bool) (p : Policy) (q : Request) where
         rights = best .rights;
       }
 
+  -- all of them, for one alternative
   unfoldable pub grantRows : (k : ℕ) → Alternative → List Row
   grantRows k alternative = joined (λ a. map (grantRow k a) (classesOf (W (a .element)) p)) (askedOf alternative q)
 
@@ -121,10 +117,12 @@ module _ (W : ℕ → ℕ → Bool) (p : Policy) (q : Request) where
         rights = 0;
       }
 
+  -- the row of the first that fails
   unfoldable pub firstFailing : (k : ℕ) → List Asked → List Row
   firstFailing k [] = []
   firstFailing k (a ∷ l) = denyRow k a ∷ []
 
+  -- the rows of the alternatives, the first number given
   unfoldable pub denyRows : (k : ℕ) → List Alternative → List Row
   denyRows k [] = []
   denyRows k (alternative ∷ more) = firstFailing k (failing alternative) ++ denyRows (suc k) more
@@ -134,6 +132,7 @@ module _ (W : ℕ → ℕ → Bool) (p : Policy) (q : Request) where
   rowsOf (grant k) = grantRows k (getD (alternativesOf q) (pred k) [])
   rowsOf deny = denyRows 1 (alternativesOf q)
 
+  -- the rows of the request
   unfoldable pub rows : List Row
   rows = rowsOf (verdict W p q)
 
@@ -143,15 +142,10 @@ pub record Explained : Type 0 where
   pub count : ℕ
 
 -- "10: .. the lent rows .. are too few"
-abbrev pub explainLines : (W : ℕ → ℕ → Bool) (table : Bool) (room : ℕ) → Policy → Request → List Line
-explainLines W table room p q =
-    (1 when not table) ∷ (2 when outOfRange q) ∷ (4 when absent p q) ∷ (5 when mismatched p q) ∷ (10 when ltb room (length (rows W p q))) ∷ []
+abbrev pub explainLines : (W : ℕ → ℕ → Bool) (holdsTable : Bool) (room : ℕ) → Policy → Request → List Line
+explainLines W holdsTable room p q =
+    (1 when not holdsTable) ∷ (2 when outOfRange q) ∷ (4 when absent p q) ∷ (5 when mismatched p q) ∷ (10 when ltb room (length (rows W p q))) ∷ []
 
-unfoldable pub explanation : (W : ℕ → ℕ → Bool) (table : Bool) (room : ℕ) → Policy → Request → Answer Explained
-explanation W table room p q =
-    answer (explainLines W table room p q) (record { verdict = verdict W p q; count = length (rows W p q) })
-
--- "rows beyond it keep their contents"; a refused call writes nothing
-unfoldable pub filled : Answer Explained → (new lent : List Row) → List Row
-filled (refused n) new lent = lent
-filled (accepted e) new lent = new ++ drop (length new) lent
+unfoldable pub explanation : (W : ℕ → ℕ → Bool) (holdsTable : Bool) (room : ℕ) → Policy → Request → Answer Explained
+explanation W holdsTable room p q =
+    answer (explainLines W holdsTable room p q) (record { verdict = verdict W p q; count = length (rows W p q) })

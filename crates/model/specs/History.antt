@@ -1,12 +1,13 @@
--- 01, demand 3: any sequence of commands, refused ones among them, and what was put and not since removed.
+-- Any sequence of commands, refused ones among them, and what was put and not since removed. A call that finds no table, or an index of another
+-- length, is refused and changes nothing, so a run is of calls that find both.
 -- Assumes nothing.
-use mathlib.Core.Bool.{Bool, true, false, not, cond, _&&_, _||_}
-use mathlib.Core.List.{List, [], _∷_, _++_}
+use mathlib.Core.Bool.{Bool, false, not, cond, _&&_, _||_}
+use mathlib.Core.List.{List, [], _∷_}
 use Prim.Native.Nat.{ℕ}
 use lib.Dec.{eqb}
 use Rattle.model.specs.Lists.{anyOf, same}
 use Rattle.model.specs.Policy.{Element, Assignment, Association, Prohibition, Process, Policy, class, elementFields, assignmentFields, associationFields, prohibitionFields, processFields}
-use Rattle.model.specs.Command.{Command, create-class, create-element, assign, deassign, delete-element, create-association, delete-association, create-prohibition, delete-prohibition, start-process, end-process, commandRefusal, after, step}
+use Rattle.model.specs.Command.{Command, create-class, create-element, assign, deassign, delete-element, create-association, delete-association, create-prohibition, delete-prohibition, start-process, end-process, commandRefusal, step}
 
 -- the policy after a sequence of commands
 unfoldable pub run : Policy → List Command → Policy

@@ -1,11 +1,11 @@
 -- 01, "The small house, judged by hand": the house, and the cases K1 to K12 as one table.
 -- Assumes nothing.
-use mathlib.Core.Bool.{Bool, true, false, cond}
-use mathlib.Core.List.{List, [], _∷_, map}
+use mathlib.Core.Bool.{Bool, true, cond}
+use mathlib.Core.List.{List, [], _∷_}
 use Prim.Native.Nat.{ℕ}
 use lib.Dec.{eqb}
-use Rattle.model.specs.Lists.{one, two}
-use Rattle.model.specs.Policy.{Element, Assignment, Association, Prohibition, Process, Policy, user, user-attribute, object, object-attribute, class, by-user, disjunctive}
+use Rattle.model.specs.Lists.{one}
+use Rattle.model.specs.Policy.{Element, Assignment, Process, Policy, user, user-attribute, object, object-attribute, class, by-user, disjunctive}
 use Rattle.model.specs.Refusal.{Answer, refused, accepted}
 use Rattle.model.specs.Request.{Request, Verdict, grant, deny, decision}
 use Rattle.model.specs.Explain.{Row, rows}
@@ -49,17 +49,19 @@ house = record {
   processes = 1 of 5 ∷ 2 of 6 ∷ [];
 }
 
--- A case: commands that come first, and then a request or a command, with what it must answer.
+-- what is asked in a case
 pub data Question : Type 0 where
-  asks : Request → Question
-  orders : Command → Question
+  a-request : Request → Question
+  a-command : Command → Question
 
+-- what must be answered
 pub data Outcome : Type 0 where
   grants : (alternative : ℕ) → Outcome
   denies : (cause number : ℕ) → Outcome
   refuses : (refusal : ℕ) → Outcome
   accepts : Outcome
 
+-- A case: commands that come first, and then a request or a command, with what it must answer.
 pub record Case : Type 0 where
   pub given : List Command
   pub question : Question
@@ -73,21 +75,21 @@ told [] (accepted deny) = denies 0 0
 told (r ∷ l) (accepted deny) = denies (r .cause) (r .number)
 
 unfoldable pub answerTo : (W : Policy → ℕ → ℕ → Bool) → Policy → Question → Outcome
-answerTo W p (asks q) = told (rows (W p) p q) (decision (W p) true p q)
-answerTo W p (orders c) = cond (eqb (commandRefusal p c) 0) accepts (refuses (commandRefusal p c))
+answerTo W p (a-request q) = told (rows (W p) p q) (decision (W p) true p q)
+answerTo W p (a-command c) = cond (eqb (commandRefusal p c) 0) accepts (refuses (commandRefusal p c))
 
 unfoldable pub answerIn : (W : Policy → ℕ → ℕ → Bool) → Case → Outcome
 answerIn W k = answerTo W (run house (k .given)) (k .question)
 
 -- "1 reads 9" and the like
 abbrev pub reads : ℕ → ℕ → Question
-reads i x = asks (record { process = i; operation = 1; first = x; second = 0; third = 0 })
+reads i x = a-request (record { process = i; operation = 1; first = x; second = 0; third = 0 })
 
 abbrev pub writes : ℕ → ℕ → Question
-writes i x = asks (record { process = i; operation = 2; first = x; second = 0; third = 0 })
+writes i x = a-request (record { process = i; operation = 2; first = x; second = 0; third = 0 })
 
 abbrev pub finds : ℕ → ℕ → Question
-finds i x = asks (record { process = i; operation = 3; first = x; second = 0; third = 0 })
+finds i x = a-request (record { process = i; operation = 3; first = x; second = 0; third = 0 })
 
 -- "prohibit user 5 {0}"
 abbrev pub prohibit : (form : ℕ) → (inclusion exclusion : List ℕ) → List Command
@@ -129,11 +131,11 @@ cases =
     ∷ (reads 1 2 ⇒ refuses 5)
     ∷ (reads 3 9 ⇒ refuses 4)
     -- K11
-    ∷ (orders (assign 7 7) ⇒ refuses 7)
-    ∷ (orders (assign 7 9) ⇒ refuses 5)
-    ∷ (orders (assign 9 7) ⇒ refuses 3)
+    ∷ (a-command (assign 7 7) ⇒ refuses 7)
+    ∷ (a-command (assign 7 9) ⇒ refuses 5)
+    ∷ (a-command (assign 9 7) ⇒ refuses 3)
     -- K12
-    ∷ (orders (deassign 9 7) ⇒ refuses 8)
-    ∷ (orders (delete-element 7) ⇒ refuses 9)
-    ∷ (orders (deassign 10 7) ⇒ accepts)
+    ∷ (a-command (deassign 9 7) ⇒ refuses 8)
+    ∷ (a-command (delete-element 7) ⇒ refuses 9)
+    ∷ (a-command (deassign 10 7) ⇒ accepts)
     ∷ []

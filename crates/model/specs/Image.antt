@@ -1,14 +1,14 @@
 -- 01, "The image": a policy as bytes, and bytes as a policy.
 -- Assumes nothing.
-use mathlib.Core.Bool.{Bool, true, false, not, cond, _&&_, _||_}
+use mathlib.Core.Bool.{Bool, false, not, _||_}
 use mathlib.Core.List.{List, [], _∷_, _++_}
 use Prim.Native.Nat.{ℕ, zero, suc, _+_, _*_, _/_}
 use lib.Dec.{eqb, leb, ltb}
 use lib.ListN.{length, drop}
-use Rattle.model.specs.Lists.{allOf, empty}
+use Rattle.model.specs.Lists.{allOf}
 use Rattle.model.specs.Policy.{Element, Assignment, Association, Prohibition, Process, Policy}
-use Rattle.model.specs.Sound.{withinLimits, fieldsRight, groupsRise, namesRight, noCycle, allAssigned}
-use Rattle.model.specs.Refusal.{Line, _when_, Answer, refused, accepted, answer}
+use Rattle.model.specs.Sound.{withinLimits, fieldsFit, groupsRise, pairsFit, noCycle, allAssigned}
+use Rattle.model.specs.Refusal.{Line, _when_, Answer, answer}
 use Rattle.model.specs.Bits.{bitsN, bitsOf, packed, numAt}
 
 -- Writing. "elements: id 9, kind 3."
@@ -57,8 +57,8 @@ imageBits p =
 unfoldable pub imageOf : Policy → List ℕ
 imageOf p = packed (imageBits p)
 
--- Reading, "all counts taken as written": what was read, and the bits behind it. Where the bits end early, what is missing is read as fewer
--- bits, and the image is cut.
+-- Reading, "all counts taken as written": what was read, and the bits behind it. A field cut short is read as the number that its remaining
+-- bits spell; `isCut` then holds of the image.
 pub record Reading (A : Type 0) : Type 0 where
   pub value : A
   pub rest : List Bool
@@ -98,10 +98,8 @@ readProcess l = record { value = record { id = numAt l 0 8; owner = numAt l 8 9 
 unfoldable pub readGroup : {A : Type 0} → (List Bool → Reading A) → ℕ → List Bool → Reading (List A)
 readGroup read zero l = record { value = []; rest = l }
 readGroup read (suc n) l =
-    record {
-      value = read l .value ∷ readGroup read n (read l .rest) .value;
-      rest = readGroup read n (read l .rest) .rest;
-    }
+    let more = readGroup read n (read l .rest) in
+    record { value = read l .value ∷ more .value; rest = more .rest }
 
 -- the groups, behind the head
 unfoldable pub readElements : List Bool → Reading (List Element)
@@ -144,23 +142,26 @@ unfoldable pub otherForm : List ℕ → Bool
 otherForm [] = false
 otherForm (b ∷ s) = not (eqb (b / 16) 1)
 
--- 12: "image cut, longer than its fields (all counts taken as written), or non-zero filling bits"
+-- 12: "image cut, longer than its fields (all counts taken as written), or non-zero filling bits". Cut: the fields, with the counts as they
+-- were read, take more bits than the image has.
 unfoldable pub isCut : List ℕ → Bool
 isCut s = ltb (8 * length s) (length (imageBits (policyIn s)))
 
+-- longer: a whole byte or more stands behind the fields
 unfoldable pub isLonger : List ℕ → Bool
 isLonger s = leb 8 (length (bitsBehind s))
 
+-- a filling bit is set
 unfoldable pub strayFilling : List ℕ → Bool
 strayFilling s = not (allOf not (bitsBehind s))
 
 -- 13: "a count, field or order in the image breaks a rule"
 unfoldable pub breaksRule : Policy → Bool
-breaksRule p = not (withinLimits p) || not (fieldsRight p) || not (groupsRise p)
+breaksRule p = not (withinLimits p) || not (fieldsFit p) || not (groupsRise p)
 
 -- 14: "an image names an unknown element or process, a wrong kind or pairing, a cycle, or an unassigned element"
 unfoldable pub namesWrong : Policy → Bool
-namesWrong p = not (namesRight p) || not (noCycle p) || not (allAssigned p)
+namesWrong p = not (pairsFit p) || not (noCycle p) || not (allAssigned p)
 
 -- "What an image holds is judged by 11 to 14 alone", each over the whole image. 1 is the memory's length alone.
 abbrev pub imageLines : List ℕ → List Line
@@ -171,23 +172,14 @@ imageLines s =
     ∷ (14 when namesWrong (policyIn s))
     ∷ []
 
-abbrev pub loadLines : (rightLength : Bool) → List ℕ → List Line
-loadLines rightLength s = (1 when not rightLength) ∷ imageLines s
+-- The lines of load.
+abbrev pub loadLines : (lengthFits : Bool) → List ℕ → List Line
+loadLines lengthFits s = (1 when not lengthFits) ∷ imageLines s
 
--- a policy, or the refusal number
+-- what an image is read as: a policy, or the refusal number
 unfoldable pub readImage : List ℕ → Answer Policy
 readImage s = answer (imageLines s) (policyIn s)
 
-unfoldable pub load : (rightLength : Bool) → List ℕ → Answer Policy
-load rightLength s = answer (loadLines rightLength s) (policyIn s)
-
--- "Save writes as many bytes as are needed and no byte beyond."; the answer carries the length
-abbrev pub saveLines : (table : Bool) (room : ℕ) → Policy → List Line
-saveLines table room p = (1 when not table) ∷ (10 when ltb room (length (imageOf p))) ∷ []
-
-unfoldable pub save : (table : Bool) (room : ℕ) → Policy → Answer ℕ
-save table room p = answer (saveLines table room p) (length (imageOf p))
-
-unfoldable pub written : Answer ℕ → (image lent : List ℕ) → List ℕ
-written (refused n) image lent = lent
-written (accepted n) image lent = image ++ drop (length image) lent
+-- The lines of save: "the lent .. output bytes are too few"
+abbrev pub saveLines : (holdsTable : Bool) (room : ℕ) → Policy → List Line
+saveLines holdsTable room p = (1 when not holdsTable) ∷ (10 when ltb room (length (imageOf p))) ∷ []

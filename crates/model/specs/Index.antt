@@ -1,17 +1,18 @@
--- 01, "The containment index", and the calls about containment.
+-- 01, "The containment index", and the lines of the calls about containment.
 -- Assumes nothing.
-use mathlib.Core.Bool.{Bool, true, false, not, _&&_, _||_}
+use mathlib.Core.Bool.{Bool, not, _&&_, _||_}
 use mathlib.Core.List.{List, [], _∷_}
 use Prim.Native.Nat.{ℕ, _+_, _*_, _-_, _/_, _%_, _^_}
 use lib.Dec.{eqb}
-use lib.ListN.{length, getD}
-use Rattle.model.specs.Lists.{same, tabulate}
+use lib.ListN.{getD}
+use Rattle.model.specs.Lists.{tabulate}
 use Rattle.model.specs.Policy.{Policy, isElementId, isThere}
 use Rattle.model.specs.Contain.{contained}
-use Rattle.model.specs.Refusal.{Line, _when_, Lent, noTable, badIndex, Answer, refused, accepted, answer}
+use Rattle.model.specs.Refusal.{Line, _when_, Lent, noTable, badIndex}
 use Rattle.model.specs.Bits.{numOf}
 
--- ".. is 1 exactly when x and y exist and x is within y"
+-- ".. is 1 exactly when x and y exist and x is within y". "Row and column 0 are zero.": no policy that memory denotes, and no sound one, has an
+-- element 0.
 unfoldable pub indexBit : Policy → (x y : ℕ) → Bool
 indexBit p x y = isThere p x && isThere p y && contained p x y
 
@@ -27,21 +28,11 @@ indexOf p = tabulate 32768 (indexByte p)
 unfoldable pub bitAt : List ℕ → (x y : ℕ) → Bool
 bitAt idx x y = eqb (getD idx (64 * x + y / 8) 0 / 2 ^ (7 - y % 8) % 2) 1
 
--- Building it: what the index holds afterwards.
+-- The lines of the calls that build the index and tell whether an index is the table's.
 abbrev pub indexLines : Lent → List Line
 indexLines m = (1 when noTable m) ∷ (2 when badIndex m) ∷ []
 
-unfoldable pub built : Lent → Policy → Answer (List ℕ)
-built m p = answer (indexLines m) (indexOf p)
-
--- "A call tells whether an index is the table's."
-unfoldable pub isIndex : Lent → Policy → List ℕ → Answer Bool
-isIndex m p idx = answer (indexLines m) (same idx (indexOf p))
-
--- The plain containment call.
-abbrev pub containLines : (table : Bool) → Policy → (x y : ℕ) → List Line
-containLines table p x y =
-    (1 when not table) ∷ (2 when not (isElementId x) || not (isElementId y)) ∷ (4 when not (isThere p x) || not (isThere p y)) ∷ []
-
-unfoldable pub containment : (table : Bool) → Policy → (x y : ℕ) → Answer Bool
-containment table p x y = answer (containLines table p x y) (contained p x y)
+-- The lines of the plain containment call.
+abbrev pub containLines : (holdsTable : Bool) → Policy → (x y : ℕ) → List Line
+containLines holdsTable p x y =
+    (1 when not holdsTable) ∷ (2 when not (isElementId x) || not (isElementId y)) ∷ (4 when not (isThere p x) || not (isThere p y)) ∷ []

@@ -5,11 +5,14 @@ pub mod Rule
 pub mod Refusal
 pub mod Request
 pub mod Explain
+pub mod Decided
+pub mod RowRule
 pub mod Sound
 pub mod Command
 pub mod History
 pub mod Bits
 pub mod Image
 pub mod Index
+pub mod Calls
 pub mod Desk
 pub mod House

@@ -1,11 +1,11 @@
 -- 01, "What the machine holds": elements, assignments, associations, prohibitions, processes.
 -- Assumes nothing.
-use mathlib.Core.Bool.{Bool, true, false, not, cond, _&&_, _||_}
+use mathlib.Core.Bool.{Bool, not, cond, _&&_, _||_}
 use mathlib.Core.List.{List, [], _∷_, _++_}
 use Prim.Native.Nat.{ℕ, _/_, _%_, _^_}
 use lib.Dec.{eqb, leb, ltb}
 use lib.ListN.{length}
-use Rattle.model.specs.Lists.{anyOf, allOf, same, three}
+use Rattle.model.specs.Lists.{anyOf, same}
 
 -- "Kinds: 1 user, 2 user attribute, 3 object, 4 object attribute, 5 policy class."
 abbrev pub user : ℕ
@@ -47,6 +47,7 @@ unfoldable pub isRightSet : ℕ → Bool
 isRightSet rights = leb 1 rights && ltb rights (2 ^ 32)
 
 -- "user to user attribute; user attribute to user attribute or class; object or object attribute to object attribute or class. No other pairing."
+-- It takes the two kinds.
 unfoldable pub allowed : (child container : ℕ) → Bool
 allowed child container =
     eqb child user && eqb container user-attribute
@@ -72,19 +73,23 @@ isSort s = leb 1 s && leb s 3
 unfoldable pub isForm : ℕ → Bool
 isForm f = leb f 1
 
+-- an element
 pub record Element : Type 0 where
   pub id : ℕ
   pub kind : ℕ
 
+-- an assignment, "from child to container"
 pub record Assignment : Type 0 where
   pub child : ℕ
   pub container : ℕ
 
+-- an association: "a user attribute, a non-empty set of rights 0 to 31, a target"
 pub record Association : Type 0 where
   pub attribute : ℕ
   pub target : ℕ
   pub rights : ℕ
 
+-- a prohibition: its subject by sort and id, its form, its right set, its inclusion and its exclusion list
 pub record Prohibition : Type 0 where
   pub sort : ℕ
   pub subject : ℕ
@@ -93,6 +98,7 @@ pub record Prohibition : Type 0 where
   pub inclusion : List ℕ
   pub exclusion : List ℕ
 
+-- a process, and the user that owns it
 pub record Process : Type 0 where
   pub id : ℕ
   pub owner : ℕ
@@ -153,9 +159,11 @@ unfoldable pub kindIn : List Element → ℕ → ℕ
 kindIn [] x = 0
 kindIn (e ∷ l) x = cond (eqb (e .id) x) (e .kind) (kindIn l x)
 
+-- the same in a policy
 unfoldable pub kindOf : Policy → ℕ → ℕ
 kindOf p x = kindIn (p .elements) x
 
+-- the element is there
 unfoldable pub isThere : Policy → ℕ → Bool
 isThere p x = not (eqb (kindOf p x) 0)
 
@@ -164,9 +172,11 @@ unfoldable pub ownerIn : List Process → ℕ → ℕ
 ownerIn [] i = 0
 ownerIn (q ∷ l) i = cond (eqb (q .id) i) (q .owner) (ownerIn l i)
 
+-- the same in a policy
 unfoldable pub userOf : Policy → ℕ → ℕ
 userOf p i = ownerIn (p .processes) i
 
+-- the process is there
 unfoldable pub isProcess : Policy → ℕ → Bool
 isProcess p i = not (eqb (userOf p i) 0)
 
@@ -178,4 +188,4 @@ unfoldable pub hasAssociation : Policy → Association → Bool
 hasAssociation p a = anyOf (λ b. same (associationFields a) (associationFields b)) (p .associations)
 
 unfoldable pub hasProhibition : Policy → Prohibition → Bool
-hasProhibition p a = anyOf (λ b. same (prohibitionFields a) (prohibitionFields b)) (p .prohibitions)
+hasProhibition p b = anyOf (λ c. same (prohibitionFields b) (prohibitionFields c)) (p .prohibitions)

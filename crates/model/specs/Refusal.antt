@@ -2,7 +2,7 @@
 -- Assumes nothing.
 use mathlib.Core.Path.{_≡_}
 use mathlib.Core.Bool.{Bool, true, false, not, cond}
-use mathlib.Core.List.{List, [], _∷_, _++_}
+use mathlib.Core.List.{List, [], _∷_}
 use Prim.Native.Nat.{ℕ}
 use lib.Dec.{eqb}
 
@@ -42,12 +42,12 @@ answer (l ∷ ls) a = cond (l .holds) (refused (l .number)) (answer ls a)
 
 -- What a call finds lent: whether the working memory holds a table, and how many bytes the index has.
 pub record Lent : Type 0 where
-  pub table : Bool
+  pub holdsTable : Bool
   pub index : ℕ
 
 -- "the working memory has another length than the published one or .. holds no table"
 abbrev pub noTable : Lent → Bool
-noTable m = not (m .table)
+noTable m = not (m .holdsTable)
 
 -- "index not 32,768 bytes"
 abbrev pub badIndex : Lent → Bool
@@ -55,4 +55,4 @@ badIndex m = not (eqb (m .index) 32768)
 
 -- a table and an index of the right length
 abbrev pub proper : Lent
-proper = record { table = true; index = 32768 }
+proper = record { holdsTable = true; index = 32768 }

@@ -1,11 +1,11 @@
 -- 01, "Containment and the decision": rights, the operation table, requests and what they are answered.
 -- Assumes nothing.
-use mathlib.Core.Bool.{Bool, true, false, not, cond, _&&_, _||_}
+use mathlib.Core.Bool.{Bool, false, not, cond, _&&_, _||_}
 use mathlib.Core.List.{List, [], _∷_, _++_, map}
 use Prim.Native.Nat.{ℕ, suc}
 use lib.Dec.{eqb, leb}
-use lib.ListN.{length, take, getD}
-use Rattle.model.specs.Lists.{anyOf, allOf, member, one, two, three}
+use lib.ListN.{getD}
+use Rattle.model.specs.Lists.{allOf, member, one, two, three}
 use Rattle.model.specs.Policy.{Policy, user, user-attribute, object, object-attribute, isElementId, isProcessId, kindOf, isThere, userOf, isProcess}
 use Rattle.model.specs.Rule.{held, restricted}
 use Rattle.model.specs.Refusal.{Line, _when_, Lent, noTable, badIndex, Answer, answer}
@@ -89,7 +89,7 @@ ks asks alts = record { arguments = ks; alternatives = alts }
 abbrev pub no-operation : Operation
 no-operation = [] asks []
 
--- The operation table: for each operation its arguments, and its alternatives, each a right set per argument.
+-- The operation table. After `asks` stand the alternatives: outermost the alternatives, in each the arguments, in each of those the rights.
 unfoldable pub operations : List Operation
 operations =
     -- 1 read
@@ -165,9 +165,11 @@ absent p q = not (isProcess p (q .process)) || absentArguments p (kindsOf q) (ar
 unfoldable pub mismatched : Policy → Request → Bool
 mismatched p q = wrongKinds p (kindsOf q) (argumentsOf q)
 
-abbrev pub requestLines : (table : Bool) → Policy → Request → List Line
-requestLines table p q = (1 when not table) ∷ (2 when outOfRange q) ∷ (4 when absent p q) ∷ (5 when mismatched p q) ∷ []
+-- the lines of a request, lowest first
+abbrev pub requestLines : (holdsTable : Bool) → Policy → Request → List Line
+requestLines holdsTable p q = (1 when not holdsTable) ∷ (2 when outOfRange q) ∷ (4 when absent p q) ∷ (5 when mismatched p q) ∷ []
 
+-- the same with an index
 abbrev pub indexedLines : Lent → Policy → Request → List Line
 indexedLines m p q = (1 when noTable m) ∷ (2 when badIndex m || outOfRange q) ∷ (4 when absent p q) ∷ (5 when mismatched p q) ∷ []
 
@@ -207,12 +209,13 @@ module _ (W : ℕ → ℕ → Bool) (p : Policy) (q : Request) where
   lowestSatisfied k [] = deny
   lowestSatisfied k (a ∷ more) = cond (satisfied a) (grant k) (lowestSatisfied (suc k) more)
 
+  -- the verdict on a request that is not refused
   unfoldable pub verdict : Verdict
   verdict = lowestSatisfied 1 (alternativesOf q)
 
--- The plain decision, and the indexed one: W is what the index's bits say.
-unfoldable pub decision : (W : ℕ → ℕ → Bool) (table : Bool) → Policy → Request → Answer Verdict
-decision W table p q = answer (requestLines table p q) (verdict W p q)
+-- The decision by the containment W. The plain call takes `contained p` for it, the indexed call what the index's bits say (`Calls`).
+unfoldable pub decision : (W : ℕ → ℕ → Bool) (holdsTable : Bool) → Policy → Request → Answer Verdict
+decision W holdsTable p q = answer (requestLines holdsTable p q) (verdict W p q)
 
 unfoldable pub indexedDecision : (W : ℕ → ℕ → Bool) → Lent → Policy → Request → Answer Verdict
 indexedDecision W m p q = answer (indexedLines m p q) (verdict W p q)

@@ -1,15 +1,16 @@
 -- 01, "Containment and the decision": classes, held, ranges, restricted. Containment is an argument, so that the plain rule and the indexed
 -- rule ("those bits read as containment") are one definition: W x y says that x is within y. What the rule asks of it is a row of the
--- user, U y = W u y, a row of the element, E y = W e y, and T = W between a target and a class.
+-- user, U y = W u y, a row of the element, E y = W e y, and T = W between a target and a class. The definitions under a `module _ (..)` line take
+-- what stands in its brackets first. Where 01's sentence says p for the process, this file says `process`; p is the policy.
 -- Assumes nothing.
-use mathlib.Core.Bool.{Bool, true, false, not, cond, _&&_, _||_}
-use mathlib.Core.List.{List, [], _∷_, map}
+use mathlib.Core.Bool.{Bool, not, cond, _&&_, _||_}
+use mathlib.Core.List.{List, map}
 use Prim.Native.Nat.{ℕ}
 use lib.Dec.{eqb}
 use Rattle.model.specs.Lists.{anyOf, allOf, those, empty}
-use Rattle.model.specs.Policy.{Element, Association, Prohibition, Policy, class, by-user, by-process, by-attribute, disjunctive, hasRight, kindOf}
+use Rattle.model.specs.Policy.{Association, Prohibition, Policy, class, by-user, by-process, by-attribute, disjunctive, hasRight, kindOf}
 
--- the policy classes, rising
+-- the policy classes, in the order of the elements
 unfoldable pub classes : Policy → List ℕ
 classes p = map (λ e. e .id) (those (λ e. eqb (e .kind) class) (p .elements))
 
@@ -22,6 +23,7 @@ module _ (U E : ℕ → Bool) (T : ℕ → ℕ → Bool) where
   unfoldable pub gives : (r c : ℕ) → Association → Bool
   gives r c a = U (a .attribute) && hasRight (a .rights) r && E (a .target) && T (a .target) c
 
+  -- some association gives the right in the class
   unfoldable pub givenIn : Policy → (r c : ℕ) → Bool
   givenIn p r c = anyOf (gives r c) (p .associations)
 
@@ -29,6 +31,7 @@ module _ (U E : ℕ → Bool) (T : ℕ → ℕ → Bool) where
   unfoldable pub heldBy : Policy → (r : ℕ) → Bool
   heldBy p r = not (empty (classesOf E p)) && allOf (givenIn p r) (classesOf E p)
 
+-- user u holds right r over e, by the containment W
 abbrev pub held : (W : ℕ → ℕ → Bool) → Policy → (u r e : ℕ) → Bool
 held W p u r e = heldBy (W u) (W e) W p r
 
@@ -57,6 +60,7 @@ module _ (U E : ℕ → Bool) (p : Policy) (process u r e : ℕ) where
   unfoldable pub restricts : Prohibition → Bool
   restricts b = hasRight (b .rights) r && inRange E p e b && isSubject U process u b
 
+  -- some prohibition restricts
   unfoldable pub restrictedBy : Bool
   restrictedBy = anyOf restricts (p .prohibitions)
 
@@ -64,5 +68,6 @@ module _ (U E : ℕ → Bool) (p : Policy) (process u r e : ℕ) where
   unfoldable pub through : (sort : ℕ) → List ℕ
   through s = map (λ b. b .subject) (those (λ b. eqb (b .sort) s && restricts b) (p .prohibitions))
 
+-- (process, r, e) is restricted, by the containment W
 abbrev pub restricted : (W : ℕ → ℕ → Bool) → Policy → (process u r e : ℕ) → Bool
 restricted W p process u r e = restrictedBy (W u) (W e) p process u r e

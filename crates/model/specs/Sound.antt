@@ -2,8 +2,8 @@
 -- with 13), the second from what the fields name (refused with 14).
 -- Assumes nothing.
 use mathlib.Core.Path.{_≡_}
-use mathlib.Core.Bool.{Bool, true, false, not, cond, _&&_, _||_}
-use mathlib.Core.List.{List, [], _∷_, _++_}
+use mathlib.Core.Bool.{Bool, true, not, cond, _&&_, _||_}
+use mathlib.Core.List.{List, _++_}
 use Prim.Native.Nat.{ℕ}
 use lib.Dec.{eqb, leb}
 use lib.ListN.{length}
@@ -35,36 +35,36 @@ abbrev pub listed : Prohibition → List ℕ
 listed b = b .inclusion ++ b .exclusion
 
 -- "an inclusion and an exclusion list of at most four attributes each, each list strictly rising, not both empty"
-unfoldable pub listsRight : Prohibition → Bool
-listsRight b =
+unfoldable pub listsFit : Prohibition → Bool
+listsFit b =
     leb (length (b .inclusion)) 4 && leb (length (b .exclusion)) 4
     && risingIds (b .inclusion) && risingIds (b .exclusion)
     && not (empty (listed b))
 
 -- the fields of one record of each group
-unfoldable pub elementRight : Element → Bool
-elementRight e = isElementId (e .id) && isKind (e .kind)
+unfoldable pub elementFits : Element → Bool
+elementFits e = isElementId (e .id) && isKind (e .kind)
 
-unfoldable pub assignmentRight : Assignment → Bool
-assignmentRight a = isElementId (a .child) && isElementId (a .container)
+unfoldable pub assignmentFits : Assignment → Bool
+assignmentFits a = isElementId (a .child) && isElementId (a .container)
 
-unfoldable pub associationRight : Association → Bool
-associationRight a = isElementId (a .attribute) && isElementId (a .target) && isRightSet (a .rights)
+unfoldable pub associationFits : Association → Bool
+associationFits a = isElementId (a .attribute) && isElementId (a .target) && isRightSet (a .rights)
 
-unfoldable pub prohibitionRight : Prohibition → Bool
-prohibitionRight b =
-    isSort (b .sort) && subjectInRange b && isForm (b .form) && isRightSet (b .rights) && allOf isElementId (listed b) && listsRight b
+unfoldable pub prohibitionFits : Prohibition → Bool
+prohibitionFits b =
+    isSort (b .sort) && subjectInRange b && isForm (b .form) && isRightSet (b .rights) && allOf isElementId (listed b) && listsFit b
 
-unfoldable pub processRight : Process → Bool
-processRight q = isProcessId (q .id) && isElementId (q .owner)
+unfoldable pub processFits : Process → Bool
+processFits q = isProcessId (q .id) && isElementId (q .owner)
 
-unfoldable pub fieldsRight : Policy → Bool
-fieldsRight p =
-    allOf elementRight (p .elements)
-    && allOf assignmentRight (p .assignments)
-    && allOf associationRight (p .associations)
-    && allOf prohibitionRight (p .prohibitions)
-    && allOf processRight (p .processes)
+unfoldable pub fieldsFit : Policy → Bool
+fieldsFit p =
+    allOf elementFits (p .elements)
+    && allOf assignmentFits (p .assignments)
+    && allOf associationFits (p .associations)
+    && allOf prohibitionFits (p .prohibitions)
+    && allOf processFits (p .processes)
 
 -- "Each group strictly rises"
 unfoldable pub groupsRise : Policy → Bool
@@ -83,27 +83,28 @@ assignmentPairs p a = allowed (kindOf p (a .child)) (kindOf p (a .container))
 unfoldable pub associationPairs : Policy → Association → Bool
 associationPairs p a = eqb (kindOf p (a .attribute)) user-attribute && isAttributeKind (kindOf p (a .target))
 
--- "a subject (sort 1 user, 2 process, 3 user attribute)": it is there, and of that kind
+-- a prohibition's subject is there
 unfoldable pub subjectThere : Policy → Prohibition → Bool
 subjectThere p b = cond (eqb (b .sort) by-process) (isProcess p (b .subject)) (isThere p (b .subject))
 
-unfoldable pub subjectFits : Policy → Prohibition → Bool
-subjectFits p b =
+-- "a subject (sort 1 user, 2 process, 3 user attribute)"
+unfoldable pub subjectOfKind : Policy → Prohibition → Bool
+subjectOfKind p b =
     cond (eqb (b .sort) by-process) true (eqb (kindOf p (b .subject)) (cond (eqb (b .sort) by-user) user user-attribute))
 
-unfoldable pub prohibitionNames : Policy → Prohibition → Bool
-prohibitionNames p b = subjectThere p b && subjectFits p b && allOf (λ x. isAttributeKind (kindOf p x)) (listed b)
+unfoldable pub prohibitionPairs : Policy → Prohibition → Bool
+prohibitionPairs p b = subjectThere p b && subjectOfKind p b && allOf (λ x. isAttributeKind (kindOf p x)) (listed b)
 
 -- "Processes, each of one user"
-unfoldable pub processNames : Policy → Process → Bool
-processNames p q = eqb (kindOf p (q .owner)) user
+unfoldable pub processPairs : Policy → Process → Bool
+processPairs p q = eqb (kindOf p (q .owner)) user
 
-unfoldable pub namesRight : Policy → Bool
-namesRight p =
+unfoldable pub pairsFit : Policy → Bool
+pairsFit p =
     allOf (assignmentPairs p) (p .assignments)
     && allOf (associationPairs p) (p .associations)
-    && allOf (prohibitionNames p) (p .prohibitions)
-    && allOf (processNames p) (p .processes)
+    && allOf (prohibitionPairs p) (p .prohibitions)
+    && allOf (processPairs p) (p .processes)
 
 -- "No cycle.": no assignment's container is within its child
 unfoldable pub noCycle : Policy → Bool
@@ -119,8 +120,8 @@ allAssigned p = allOf (assignedOrClass p) (p .elements)
 -- A sound policy: all that the first section of 01 demands.
 pub record Sound (p : Policy) : Type 0 where
   pub limits : withinLimits p ≡ true
-  pub fields : fieldsRight p ≡ true
+  pub fields : fieldsFit p ≡ true
   pub order : groupsRise p ≡ true
-  pub names : namesRight p ≡ true
+  pub names : pairsFit p ≡ true
   pub acyclic : noCycle p ≡ true
   pub assigned : allAssigned p ≡ true

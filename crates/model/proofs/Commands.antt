@@ -1,0 +1,10 @@
+pub mod Ids
+pub mod Lines
+pub mod Parts
+pub mod Names
+pub mod Changes
+pub mod Keeps
+pub mod Runs
+pub mod Stands
+pub mod Upkeep
+pub mod Pairs

@@ -1,0 +1,13 @@
+pub mod Truths
+pub mod Ranges
+pub mod Bits
+pub mod Fields
+pub mod Groups
+pub mod Records
+pub mod Prohibitions
+pub mod Counts
+pub mod Lengths
+pub mod Policies
+pub mod Packed
+pub mod Images
+pub mod Written
