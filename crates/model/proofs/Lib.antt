@@ -10,3 +10,4 @@ pub mod Decisions
 pub mod Image
 pub mod Indexed
 pub mod Commands
+pub mod Whole

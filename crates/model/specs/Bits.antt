@@ -11,6 +11,7 @@ unfoldable pub digit : Bool → ℕ
 digit true = 1
 digit false = 0
 
+-- the lowest bit
 unfoldable pub odd : ℕ → Bool
 odd v = eqb (v % 2) 1
 

@@ -50,6 +50,7 @@ pub record Explaining : Type 0 where
   pub answers : Answer Explained
   pub leaves : List Row
 
+-- the explanation, whole
 unfoldable pub explain : Memory → Request → (room : List Row) → Explaining
 explain m q room =
     let told = explanation (contained (m .policy)) (m .holdsTable) (length room) (m .policy) q in
@@ -77,6 +78,7 @@ pub record Saving : Type 0 where
   pub answers : Answer ℕ
   pub leaves : List ℕ
 
+-- save, whole
 unfoldable pub save : Memory → (room : List ℕ) → Saving
 save m room =
     let image = imageOf (m .policy) in
@@ -88,6 +90,7 @@ pub record Building : Type 0 where
   pub answers : Answer (List ℕ)
   pub index : List ℕ
 
+-- building the index, whole
 unfoldable pub build : Memory → (index : List ℕ) → Building
 build m index =
     let told = answer (indexLines (lent m index)) (indexOf (m .policy)) in
@@ -118,6 +121,7 @@ pub record Commanding : Type 0 where
   pub table : Policy
   pub index : List ℕ
 
+-- a command, whole
 unfoldable pub command : Memory → (index : List ℕ) → Command → Commanding
 command m index c =
     let next = after (m .policy) c in

@@ -67,6 +67,7 @@ onlyOne p x = eqb (length (those (λ a. eqb (a .child) x) (p .assignments))) 1
 unfoldable pub prohibitionNamesElement : (x : ℕ) → Prohibition → Bool
 prohibitionNamesElement x b = not (eqb (b .sort) by-process) && eqb (b .subject) x || member x (listed b)
 
+-- the element is named by anything
 unfoldable pub inUse : Policy → (x : ℕ) → Bool
 inUse p x =
     anyOf (λ a. eqb (a .container) x) (p .assignments)
@@ -82,9 +83,11 @@ processInUse p i = anyOf (λ b. eqb (b .sort) by-process && eqb (b .subject) i) 
 abbrev pub fullOfAssignments : Policy → Bool
 fullOfAssignments p = leb mostAssignments (length (p .assignments))
 
+-- the same of associations
 abbrev pub fullOfAssociations : Policy → Bool
 fullOfAssociations p = leb mostAssociations (length (p .associations))
 
+-- the same of prohibitions
 abbrev pub fullOfProhibitions : Policy → Bool
 fullOfProhibitions p = leb mostProhibitions (length (p .prohibitions))
 

@@ -20,6 +20,7 @@ digits (suc most) n =
     let higher = digits most (n / 10) in
     cond (ltb n 10) ((48 + n) ∷ []) (higher ++ ((48 + n % 10) ∷ []))
 
+-- a number in decimal
 unfoldable pub decimal : ℕ → List ℕ
 decimal n = digits 10 n
 
@@ -32,6 +33,7 @@ numbers (n ∷ l) = 32 ∷ (decimal n ++ numbers l)
 abbrev pub line : (letter : ℕ) → List ℕ → List ℕ
 line letter l = letter ∷ numbers l
 
+-- the letters of the lines
 abbrev pub L : ℕ
 L = 76
 

@@ -22,6 +22,7 @@ pub record Row : Type 0 where
   pub target : ℕ
   pub rights : ℕ
 
+-- the causes, by their numbers
 abbrev pub not-held : ℕ
 not-held = 1
 
@@ -146,6 +147,7 @@ abbrev pub explainLines : (W : ℕ → ℕ → Bool) (holdsTable : Bool) (room :
 explainLines W holdsTable room p q =
     (1 when not holdsTable) ∷ (2 when outOfRange q) ∷ (4 when absent p q) ∷ (5 when mismatched p q) ∷ (10 when ltb room (length (rows W p q))) ∷ []
 
+-- the explanation's answer, given how many rows are lent
 unfoldable pub explanation : (W : ℕ → ℕ → Bool) (holdsTable : Bool) (room : ℕ) → Policy → Request → Answer Explained
 explanation W holdsTable room p q =
     answer (explainLines W holdsTable room p q) (record { verdict = verdict W p q; count = length (rows W p q) })

@@ -35,6 +35,7 @@ itemFields (an-association a) = 3 ∷ associationFields a
 itemFields (a-prohibition b) = 4 ∷ prohibitionFields b
 itemFields (a-process q) = 5 ∷ processFields q
 
+-- the same item
 unfoldable pub isItem : Item → Item → Bool
 isItem i j = same (itemFields i) (itemFields j)
 
@@ -69,6 +70,7 @@ isElementOrOwn x (an-association a) = false
 isElementOrOwn x (a-prohibition b) = false
 isElementOrOwn x (a-process q) = false
 
+-- the process with this id
 unfoldable pub isProcessItem : (n : ℕ) → Item → Bool
 isProcessItem n (an-element e) = false
 isProcessItem n (an-assignment a) = false

@@ -12,14 +12,17 @@ use Rattle.model.specs.Explain.{Row, rows}
 use Rattle.model.specs.Command.{Command, assign, deassign, delete-element, create-prohibition, commandRefusal}
 use Rattle.model.specs.History.{run}
 
+-- "1 is a class", and so on
 infix 70 _is_
 abbrev pub _is_ : ℕ → ℕ → Element
 x is k = record { id = x; kind = k }
 
+-- "3 (in 2)": the element 3 is assigned to 2
 infix 70 _into_
 abbrev pub _into_ : ℕ → ℕ → Assignment
 x into y = record { child = x; container = y }
 
+-- "Process 1 of user 5"
 infix 70 _of_
 abbrev pub _of_ : ℕ → ℕ → Process
 i of u = record { id = i; owner = u }
@@ -74,10 +77,12 @@ told why (accepted (grant k)) = grants k
 told [] (accepted deny) = denies 0 0
 told (r ∷ l) (accepted deny) = denies (r .cause) (r .number)
 
+-- the answer to a question
 unfoldable pub answerTo : (W : Policy → ℕ → ℕ → Bool) → Policy → Question → Outcome
 answerTo W p (a-request q) = told (rows (W p) p q) (decision (W p) true p q)
 answerTo W p (a-command c) = cond (eqb (commandRefusal p c) 0) accepts (refuses (commandRefusal p c))
 
+-- the answer in a case, each starting from the small house
 unfoldable pub answerIn : (W : Policy → ℕ → ℕ → Bool) → Case → Outcome
 answerIn W k = answerTo W (run house (k .given)) (k .question)
 
@@ -85,9 +90,11 @@ answerIn W k = answerTo W (run house (k .given)) (k .question)
 abbrev pub reads : ℕ → ℕ → Question
 reads i x = a-request (record { process = i; operation = 1; first = x; second = 0; third = 0 })
 
+-- "1 writes 10"
 abbrev pub writes : ℕ → ℕ → Question
 writes i x = a-request (record { process = i; operation = 2; first = x; second = 0; third = 0 })
 
+-- "1 finds 9"
 abbrev pub finds : ℕ → ℕ → Question
 finds i x = a-request (record { process = i; operation = 3; first = x; second = 0; third = 0 })
 
@@ -96,17 +103,21 @@ abbrev pub prohibit : (form : ℕ) → (inclusion exclusion : List ℕ) → List
 prohibit form ins outs =
     create-prohibition (record { sort = by-user; subject = 5; form = form; rights = 1; inclusion = ins; exclusion = outs }) ∷ []
 
+-- form 1
 abbrev pub conjunctive : ℕ
 conjunctive = 1
 
+-- a question, and what it must be answered
 infix 15 _⇒_
 abbrev pub _⇒_ : Question → Outcome → Case
 q ⇒ o = record { given = []; question = q; outcome = o }
 
+-- commands first, and then a case
 infix 14 _then_
 abbrev pub _then_ : List Command → Case → Case
 cs then k = record { given = cs; question = k .question; outcome = k .outcome }
 
+-- K1 to K12
 unfoldable pub cases : List Case
 cases =
     -- K1, K2, K3

@@ -49,11 +49,13 @@ headBits p =
     bitsN 4 1 ++ (bitsN 9 (length (p .elements)) ++ (bitsN 11 (length (p .assignments)) ++ (bitsN 10 (length (p .associations))
     ++ (bitsN 8 (length (p .prohibitions)) ++ bitsN 8 (length (p .processes))))))
 
+-- the whole image as bits: the head, then the groups
 unfoldable pub imageBits : Policy → List Bool
 imageBits p =
     headBits p ++ (groupBits elementBits (p .elements) ++ (groupBits assignmentBits (p .assignments)
     ++ (groupBits associationBits (p .associations) ++ (groupBits prohibitionBits (p .prohibitions) ++ groupBits processBits (p .processes)))))
 
+-- the image, in bytes
 unfoldable pub imageOf : Policy → List ℕ
 imageOf p = packed (imageBits p)
 
@@ -63,12 +65,15 @@ pub record Reading (A : Type 0) : Type 0 where
   pub value : A
   pub rest : List Bool
 
+-- "id 9, kind 3"
 unfoldable pub readElement : List Bool → Reading Element
 readElement l = record { value = record { id = numAt l 0 9; kind = numAt l 9 3 }; rest = drop 12 l }
 
+-- "child 9, container 9"
 unfoldable pub readAssignment : List Bool → Reading Assignment
 readAssignment l = record { value = record { child = numAt l 0 9; container = numAt l 9 9 }; rest = drop 18 l }
 
+-- "user attribute 9, target 9, rights 32"
 unfoldable pub readAssociation : List Bool → Reading Association
 readAssociation l = record { value = record { attribute = numAt l 0 9; target = numAt l 9 9; rights = numAt l 18 32 }; rest = drop 50 l }
 
@@ -77,6 +82,7 @@ unfoldable pub readIds : ℕ → List Bool → List ℕ
 readIds zero l = []
 readIds (suc n) l = numAt l 0 9 ∷ readIds n (drop 9 l)
 
+-- "sort 2, subject 9, form 1, rights 32, inclusion count 3, exclusion count 3, ids 9 each"
 unfoldable pub readProhibition : List Bool → Reading Prohibition
 readProhibition l =
     record {
@@ -91,6 +97,7 @@ readProhibition l =
       rest = drop (50 + 9 * (numAt l 44 3 + numAt l 47 3)) l;
     }
 
+-- "id 8, user 9"
 unfoldable pub readProcess : List Bool → Reading Process
 readProcess l = record { value = record { id = numAt l 0 8; owner = numAt l 8 9 }; rest = drop 17 l }
 
@@ -105,18 +112,23 @@ readGroup read (suc n) l =
 unfoldable pub readElements : List Bool → Reading (List Element)
 readElements l = readGroup readElement (numAt l 4 9) (drop 50 l)
 
+-- the assignments stand behind the elements, their count is 11 bits of the head
 unfoldable pub readAssignments : List Bool → Reading (List Assignment)
 readAssignments l = readGroup readAssignment (numAt l 13 11) (readElements l .rest)
 
+-- the associations behind those, their count 10 bits
 unfoldable pub readAssociations : List Bool → Reading (List Association)
 readAssociations l = readGroup readAssociation (numAt l 24 10) (readAssignments l .rest)
 
+-- the prohibitions behind those, their count 8 bits
 unfoldable pub readProhibitions : List Bool → Reading (List Prohibition)
 readProhibitions l = readGroup readProhibition (numAt l 34 8) (readAssociations l .rest)
 
+-- the processes last, their count 8 bits
 unfoldable pub readProcesses : List Bool → Reading (List Process)
 readProcesses l = readGroup readProcess (numAt l 42 8) (readProhibitions l .rest)
 
+-- the whole
 unfoldable pub readPolicy : List Bool → Reading Policy
 readPolicy l =
     record {
@@ -134,6 +146,7 @@ readPolicy l =
 abbrev pub policyIn : List ℕ → Policy
 policyIn s = readPolicy (bitsOf s) .value
 
+-- the bits behind the last field
 abbrev pub bitsBehind : List ℕ → List Bool
 bitsBehind s = readPolicy (bitsOf s) .rest
 

@@ -31,6 +31,7 @@ module _ {A : Type 0} where
   lessFirst f [] = []
   lessFirst f (a ∷ l) = cond (f a) l (a ∷ lessFirst f l)
 
+  -- the list has no member
   unfoldable pub empty : List A → Bool
   empty [] = true
   empty (a ∷ l) = false
@@ -40,6 +41,7 @@ module _ {A : Type 0} where
   tabulate zero f = []
   tabulate (suc n) f = f 0 ∷ tabulate n (λ i. f (suc i))
 
+-- lists of one, two and three
 abbrev pub one {ℓ} : {A : Type ℓ} → A → List A
 one a = a ∷ []
 

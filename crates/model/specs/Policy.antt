@@ -31,6 +31,7 @@ isElementId x = leb 1 x && leb x 511
 unfoldable pub isProcessId : ℕ → Bool
 isProcessId x = leb 1 x && leb x 255
 
+-- "kind not 1..5" is out of range
 unfoldable pub isKind : ℕ → Bool
 isKind k = leb 1 k && leb k 5
 
@@ -67,9 +68,11 @@ by-attribute = 3
 abbrev pub disjunctive : ℕ
 disjunctive = 0
 
+-- the sorts are 1, 2 and 3
 unfoldable pub isSort : ℕ → Bool
 isSort s = leb 1 s && leb s 3
 
+-- the forms are 0 and 1
 unfoldable pub isForm : ℕ → Bool
 isForm f = leb f 1
 
@@ -127,6 +130,7 @@ withProhibitions p l = record { elements = p .elements; assignments = p .assignm
 abbrev pub withProcesses : Policy → List Process → Policy
 withProcesses p l = record { elements = p .elements; assignments = p .assignments; associations = p .associations; prohibitions = p .prohibitions; processes = l }
 
+-- the policy that holds nothing
 abbrev pub emptyPolicy : Policy
 emptyPolicy = record { elements = []; assignments = []; associations = []; prohibitions = []; processes = [] }
 
@@ -134,12 +138,15 @@ emptyPolicy = record { elements = []; assignments = []; associations = []; prohi
 abbrev pub elementKey : Element → List ℕ
 elementKey e = e .id ∷ []
 
+-- all fields of an element
 abbrev pub elementFields : Element → List ℕ
 elementFields e = e .id ∷ e .kind ∷ []
 
+-- "Assignments: child 9, container 9."
 abbrev pub assignmentFields : Assignment → List ℕ
 assignmentFields a = a .child ∷ a .container ∷ []
 
+-- "Associations: user attribute 9, target 9, rights 32"
 abbrev pub associationFields : Association → List ℕ
 associationFields a = a .attribute ∷ a .target ∷ a .rights ∷ []
 
@@ -148,9 +155,11 @@ abbrev pub prohibitionFields : Prohibition → List ℕ
 prohibitionFields b =
     b .sort ∷ b .subject ∷ b .form ∷ b .rights ∷ length (b .inclusion) ∷ length (b .exclusion) ∷ (b .inclusion ++ b .exclusion)
 
+-- "processes rise by id alone"
 abbrev pub processKey : Process → List ℕ
 processKey q = q .id ∷ []
 
+-- all fields of a process
 abbrev pub processFields : Process → List ℕ
 processFields q = q .id ∷ q .owner ∷ []
 
@@ -184,8 +193,10 @@ isProcess p i = not (eqb (userOf p i) 0)
 unfoldable pub isAssigned : Policy → (child container : ℕ) → Bool
 isAssigned p x y = anyOf (λ a. eqb x (a .child) && eqb y (a .container)) (p .assignments)
 
+-- "exact triple"
 unfoldable pub hasAssociation : Policy → Association → Bool
 hasAssociation p a = anyOf (λ b. same (associationFields a) (associationFields b)) (p .associations)
 
+-- "exact fields"
 unfoldable pub hasProhibition : Policy → Prohibition → Bool
 hasProhibition p b = anyOf (λ c. same (prohibitionFields b) (prohibitionFields c)) (p .prohibitions)

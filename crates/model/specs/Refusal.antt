@@ -11,6 +11,7 @@ pub record Line : Type 0 where
   pub number : ℕ
   pub holds : Bool
 
+-- the line with number n, which holds when b does
 infix 25 _when_
 abbrev pub _when_ : ℕ → Bool → Line
 n when b = record { number = n; holds = b }

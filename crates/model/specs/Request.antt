@@ -55,6 +55,7 @@ assoc-to = 12
 abbrev pub Kinds : Type 0
 Kinds = List ℕ
 
+-- the kinds that the operation table names
 abbrev pub an-object : Kinds
 an-object = one object
 
@@ -68,6 +69,7 @@ a-user-attribute = one user-attribute
 abbrev pub an-attribute : Kinds
 an-attribute = three user-attribute object object-attribute
 
+-- "non-class elements"
 abbrev pub a-non-class : Kinds
 a-non-class = user ∷ user-attribute ∷ object ∷ object-attribute ∷ []
 
@@ -75,17 +77,21 @@ a-non-class = user ∷ user-attribute ∷ object ∷ object-attribute ∷ []
 abbrev pub Rights : Type 0
 Rights = List ℕ
 
+-- an alternative: for each argument the rights that it asks
 abbrev pub Alternative : Type 0
 Alternative = List Rights
 
+-- a line of the operation table
 pub record Operation : Type 0 where
   pub arguments : List Kinds
   pub alternatives : List Alternative
 
+-- "arguments", and the alternatives that they are asked
 infix 20 _asks_
 abbrev pub _asks_ : List Kinds → List Alternative → Operation
 ks asks alts = record { arguments = ks; alternatives = alts }
 
+-- a number that names no operation takes no argument and has no alternative
 abbrev pub no-operation : Operation
 no-operation = [] asks []
 
@@ -113,6 +119,7 @@ operations =
     ∷ (two a-user-attribute an-attribute asks one (two (one assoc-from) (one assoc-to)))
     ∷ []
 
+-- the operation with this number
 unfoldable pub operationOf : ℕ → Operation
 operationOf n = getD (no-operation ∷ operations) n no-operation
 
@@ -128,12 +135,15 @@ pub record Request : Type 0 where
   pub second : ℕ
   pub third : ℕ
 
+-- its three arguments
 abbrev pub argumentsOf : Request → List ℕ
 argumentsOf q = three (q .first) (q .second) (q .third)
 
+-- the kinds of the arguments that its operation uses
 abbrev pub kindsOf : Request → List Kinds
 kindsOf q = operationOf (q .operation) .arguments
 
+-- the alternatives of its operation
 abbrev pub alternativesOf : Request → List Alternative
 alternativesOf q = operationOf (q .operation) .alternatives
 
@@ -159,9 +169,11 @@ wrongKinds p (k ∷ ks) (e ∷ es) = not (member (kindOf p e) k) || wrongKinds p
 unfoldable pub outOfRange : Request → Bool
 outOfRange q = not (isProcessId (q .process)) || not (isOperation (q .operation)) || badArguments (kindsOf q) (argumentsOf q)
 
+-- 4: the process, or an argument that is used, is absent
 unfoldable pub absent : Policy → Request → Bool
 absent p q = not (isProcess p (q .process)) || absentArguments p (kindsOf q) (argumentsOf q)
 
+-- 5: an argument that is used is of another kind
 unfoldable pub mismatched : Policy → Request → Bool
 mismatched p q = wrongKinds p (kindsOf q) (argumentsOf q)
 
@@ -185,6 +197,7 @@ asked i [] es = []
 asked i (rs ∷ more) [] = []
 asked i (rs ∷ more) (e ∷ es) = map (λ r. record { argument = i; element = e; right = r }) rs ++ asked (suc i) more es
 
+-- what an alternative asks in a request
 abbrev pub askedOf : Alternative → Request → List Asked
 askedOf alternative q = asked 1 alternative (argumentsOf q)
 
@@ -217,5 +230,6 @@ module _ (W : ℕ → ℕ → Bool) (p : Policy) (q : Request) where
 unfoldable pub decision : (W : ℕ → ℕ → Bool) (holdsTable : Bool) → Policy → Request → Answer Verdict
 decision W holdsTable p q = answer (requestLines holdsTable p q) (verdict W p q)
 
+-- the decision with an index lent
 unfoldable pub indexedDecision : (W : ℕ → ℕ → Bool) → Lent → Policy → Request → Answer Verdict
 indexedDecision W m p q = answer (indexedLines m p q) (verdict W p q)

@@ -15,12 +15,15 @@ use Rattle.model.specs.Contain.{contained}
 abbrev pub mostAssignments : ℕ
 mostAssignments = 2000
 
+-- "at most 1,000"
 abbrev pub mostAssociations : ℕ
 mostAssociations = 1000
 
+-- "at most 200"
 abbrev pub mostProhibitions : ℕ
 mostProhibitions = 200
 
+-- no group is past its limit
 unfoldable pub withinLimits : Policy → Bool
 withinLimits p =
     leb (length (p .assignments)) mostAssignments
@@ -31,6 +34,7 @@ withinLimits p =
 unfoldable pub subjectInRange : Prohibition → Bool
 subjectInRange b = cond (eqb (b .sort) by-process) (isProcessId (b .subject)) (isElementId (b .subject))
 
+-- the attributes that a prohibition lists, inclusions first
 abbrev pub listed : Prohibition → List ℕ
 listed b = b .inclusion ++ b .exclusion
 
@@ -45,19 +49,24 @@ listsFit b =
 unfoldable pub elementFits : Element → Bool
 elementFits e = isElementId (e .id) && isKind (e .kind)
 
+-- an assignment's fields
 unfoldable pub assignmentFits : Assignment → Bool
 assignmentFits a = isElementId (a .child) && isElementId (a .container)
 
+-- an association's
 unfoldable pub associationFits : Association → Bool
 associationFits a = isElementId (a .attribute) && isElementId (a .target) && isRightSet (a .rights)
 
+-- a prohibition's
 unfoldable pub prohibitionFits : Prohibition → Bool
 prohibitionFits b =
     isSort (b .sort) && subjectInRange b && isForm (b .form) && isRightSet (b .rights) && allOf isElementId (listed b) && listsFit b
 
+-- a process's
 unfoldable pub processFits : Process → Bool
 processFits q = isProcessId (q .id) && isElementId (q .owner)
 
+-- every field of every record is in range
 unfoldable pub fieldsFit : Policy → Bool
 fieldsFit p =
     allOf elementFits (p .elements)
@@ -92,6 +101,7 @@ unfoldable pub subjectOfKind : Policy → Prohibition → Bool
 subjectOfKind p b =
     cond (eqb (b .sort) by-process) true (eqb (kindOf p (b .subject)) (cond (eqb (b .sort) by-user) user user-attribute))
 
+-- its subject and its listed attributes are there, of the kinds that 01 asks
 unfoldable pub prohibitionPairs : Policy → Prohibition → Bool
 prohibitionPairs p b = subjectThere p b && subjectOfKind p b && allOf (λ x. isAttributeKind (kindOf p x)) (listed b)
 
@@ -99,6 +109,7 @@ prohibitionPairs p b = subjectThere p b && subjectOfKind p b && allOf (λ x. isA
 unfoldable pub processPairs : Policy → Process → Bool
 processPairs p q = eqb (kindOf p (q .owner)) user
 
+-- every record names what is there, of the kinds that 01 asks
 unfoldable pub pairsFit : Policy → Bool
 pairsFit p =
     allOf (assignmentPairs p) (p .assignments)
@@ -114,6 +125,7 @@ noCycle p = allOf (λ a. not (contained p (a .container) (a .child))) (p .assign
 unfoldable pub assignedOrClass : Policy → Element → Bool
 assignedOrClass p e = eqb (e .kind) class || anyOf (λ a. eqb (a .child) (e .id)) (p .assignments)
 
+-- of each element
 unfoldable pub allAssigned : Policy → Bool
 allAssigned p = allOf (assignedOrClass p) (p .elements)
 
