@@ -14,6 +14,7 @@ pub mod explain;
 pub mod house;
 pub mod image;
 pub mod index;
+pub mod leaves;
 pub mod make;
 pub mod policy;
 
@@ -23,6 +24,7 @@ pub use desk::desk;
 pub use explain::{explain, explain_into, Explanation, Row};
 pub use image::{load, save, save_into};
 pub use index::{build_index, build_index_into, is_index};
+pub use leaves::{leaves, leaves_script};
 pub use policy::{contains, Policy, Prohibition};
 
 /// 01, "Refusal numbers". The names are this program's own, the numbers are 01's.

@@ -1,4 +1,5 @@
-//! Prints what the second program answers: `desk` as the desk program does, `house` the cases K1 to K12.
+//! Prints what the second program answers: `desk` as the desk program does, `house` the cases K1 to K12,
+//! `leaves` as the program `try_leaves` does, `leaves-script` the script that is stored for it.
 
 use std::io::{self, Read, Write};
 use std::process::ExitCode;
@@ -8,8 +9,10 @@ fn main() -> ExitCode {
     let printed = match arguments.iter().map(String::as_str).collect::<Vec<_>>()[..] {
         ["desk"] => desk(),
         ["house"] => house(),
+        ["leaves"] => leaves(),
+        ["leaves-script"] => io::stdout().write_all(&second::leaves_script()).map(|()| true),
         _ => {
-            eprintln!("usage: second-run desk < input | second-run house");
+            eprintln!("usage: second-run desk < input | second-run house | second-run leaves < script | second-run leaves-script");
             return ExitCode::from(2);
         }
     };
@@ -27,6 +30,13 @@ fn desk() -> io::Result<bool> {
     let mut input = Vec::new();
     io::stdin().read_to_end(&mut input)?;
     io::stdout().write_all(&second::desk(&input))?;
+    Ok(true)
+}
+
+fn leaves() -> io::Result<bool> {
+    let mut script = Vec::new();
+    io::stdin().read_to_end(&mut script)?;
+    io::stdout().write_all(second::leaves(&script).as_bytes())?;
     Ok(true)
 }
 

@@ -1,0 +1,55 @@
+-- The containers of one element among the first assignments of the table.
+-- Assumes nothing.
+use mathlib.Core.Path.{_≡_, ap}
+use mathlib.Core.List.{List}
+use mathlib.Core.Logic.{_⊎_, inl, inr}
+use Prim.Native.Nat.{ℕ, _+_, _*_, _-_, _≤_, _<_}
+use native.Mathlib.Omega.{arith}
+use native.Mathlib.Decide.{decLt}
+use Rattle.model.specs.Contain.{Assigned}
+use Rattle.table.specs.Layout.{assignmentCount, assignmentWord}
+use Rattle.table.specs.View.{policyOf}
+use Rattle.table.specs.Facts.{FirstOf, AmongFirst}
+use Rattle.table.proofs.Assignments.{assigned-word, word-assigned}
+use Rattle.climb.specs.Queued.{Container}
+
+module _ {mem : List ℕ} {x : ℕ} where
+  -- before the first assignment of x there is none of x
+  pub among-none : {r : ℕ} → FirstOf mem x r → (y : ℕ) → AmongFirst mem r x y → ⊥
+  among-none f y e = omega (arith, f .before (e .at) (e .early))
+
+  -- what is among the first i is among the first i + 1
+  pub among-more : {i : ℕ} (y : ℕ) → AmongFirst mem i x y → AmongFirst mem (i + 1) x y
+  among-more y e = record { at = e .at; early = omega arith; is = e .is; small = e .small }
+
+  -- an assignment of x names its container
+  pub among-last : (i : ℕ) → x * 512 ≤ assignmentWord mem i → assignmentWord mem i < (x + 1) * 512 → (y : ℕ) → y ≡ assignmentWord mem i - x * 512 → AmongFirst mem (i + 1) x y
+  among-last i l h y e = record { at = i; early = omega arith; is = omega arith; small = omega arith }
+
+  -- what is among the first i + 1 is among the first i or is the last of them
+  pub among-split : (i y : ℕ) → AmongFirst mem (i + 1) x y → AmongFirst mem i x y ⊎ (y ≡ assignmentWord mem i - x * 512)
+  among-split i y e = elim (decLt (e .at) i) [
+    | yes b ↦ inl (record { at = e .at; early = b; is = e .is; small = e .small })
+    | no b ↦ inr (let s : e .at ≡ i = omega arith in omega (arith, ap (assignmentWord mem) s))
+  ]
+
+  -- what is among the first is a container
+  pub among-container : {i : ℕ} → i ≤ assignmentCount mem → (y : ℕ) → AmongFirst mem i x y → Container mem x y
+  among-container l y e = record { at = e .at; early = omega arith; is = e .is; small = e .small }
+
+  -- a container of x stands before the first assignment of x + 1
+  pub container-among : {r i : ℕ} → FirstOf mem (x + 1) r → r ≤ i → (y : ℕ) → Container mem x y → AmongFirst mem i x y
+  container-among {i = i} f l y e = elim (decLt (e .at) i) [
+    | yes b ↦ record { at = e .at; early = b; is = e .is; small = e .small }
+    | no b ↦ absurd (omega (arith, f .from (e .at) (omega arith) (e .early)))
+  ]
+
+-- a container by the words is one by the policy
+pub container-assigned : {mem : List ℕ} {x y : ℕ} → Container mem x y → Assigned (policyOf mem .assignments) x y
+unfolding policyOf
+container-assigned c = word-assigned c
+
+-- and the other way
+pub assigned-container : (mem : List ℕ) {x y : ℕ} → Assigned (policyOf mem .assignments) x y → Container mem x y
+unfolding policyOf
+assigned-container mem a = assigned-word mem a

@@ -1,0 +1,6 @@
+pub mod Containers
+pub mod Queue
+pub mod Turns
+pub mod Steps
+pub mod Exactly
+pub mod Answered

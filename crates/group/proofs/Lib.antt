@@ -1,0 +1,16 @@
+pub mod Widths
+pub mod Rooms
+pub mod Laid
+pub mod Moves
+pub mod Compare
+pub mod Found
+pub mod Placed
+pub mod Wide
+pub mod Records
+pub mod Changes
+pub mod Kept
+pub mod Steps
+pub mod Regrouped
+pub mod Words
+pub mod Others
+pub mod Examples

@@ -1,0 +1,3 @@
+pub mod Rows
+pub mod Passes
+pub mod Answers

@@ -1,0 +1,166 @@
+-- The associations as a group of records of two words, and the policy after one is put in or taken out.
+-- Assumes nothing.
+use mathlib.Core.Path.{_≡_, refl, sym, ap, _∙_}
+use mathlib.Core.List.{List, [], _∷_, map}
+use mathlib.Core.Logic.{_⊎_, inl, inr}
+use Prim.Native.Nat.{ℕ, _+_, _*_, _/_, _%_, _≤_, _<_}
+use native.Mathlib.Omega.{arith}
+use native.Mathlib.Decide.{decLt}
+use lib.Dec.{ltb}
+use lib.ListN.{length, take, drop, getD}
+use lib.Seq.{getD-take, getD-drop}
+use Rattle.model.specs.Lists.{anyOf, before, same, put, lessFirst}
+use Rattle.model.specs.Policy.{Association, associationFields, hasAssociation, withAssociations}
+use Rattle.table.specs.Layout.{word, associationStart}
+use Rattle.table.specs.View.{associationAt, associationsOf, policyOf}
+use Rattle.table.specs.Facts.{Table}
+use Rattle.group.specs.Group.{records, group, regroup, firstOf, Fits, Wide}
+use Rattle.group.proofs.Records.{records-at}
+use Rattle.group.proofs.Regrouped.{length-regrouped, count-regrouped, group-regrouped}
+use Rattle.group.proofs.Wide.{wide-put, wide-less}
+use Rattle.group.proofs.Kept.{wide-group, put-few, less-few}
+use Rattle.store.specs.Words.{associationRecord, withAssociation, withoutAssociation}
+use Rattle.store.proofs.Frames.{Same, tabulate-alike, elements-same, processes-same, assignments-same, prohibitions-same, tidy-same, rising-same, small-same}
+use Rattle.store.proofs.Looked.{record-found}
+use Rattle.store.proofs.Regroups.{regroup-leaves}
+use Rattle.store.proofs.Mapped.{map-tabulate, map-put, map-less, fields-packed, same-packed}
+
+-- the association that a record of two words is
+abbrev pub associationIn : List ℕ → Association
+associationIn r = record { attribute = getD r 0 0 / 512; target = getD r 0 0 % 512; rights = getD r 1 0 }
+
+-- word k of record i
+record-word : (mem : List ℕ) (i k : ℕ) → k < 2 → getD (take 2 (drop (2 * i) (drop 2776 mem))) k 0 ≡ word mem (associationStart i + k)
+record-word mem i k h =
+    getD-take 2 (drop (2 * i) (drop 2776 mem)) k 0 h ∙ getD-drop (2 * i) (drop 2776 mem) k 0 ∙ getD-drop 2776 mem (2 * i + k) 0 ∙ ap (λ (j : ℕ). getD mem j 0) (omega arith)
+
+-- the associations are the group's records
+pub associations-group : (mem : List ℕ) → associationsOf mem ≡ map associationIn (group 2776 2 2 mem)
+unfolding associationsOf group
+associations-group mem =
+    sym (ap (map associationIn) (records-at 2 (word mem 2) (drop 2776 mem))
+    ∙ map-tabulate associationIn (word mem 2) (λ i. take 2 (drop (2 * i) (drop 2776 mem)))
+    ∙ tabulate-alike (word mem 2) (λ i. associationIn (take 2 (drop (2 * i) (drop 2776 mem)))) (associationAt mem) each)
+  where
+    each : (i : ℕ) → i < word mem 2 → associationIn (take 2 (drop (2 * i) (drop 2776 mem))) ≡ associationAt mem i
+    each i h =
+        let a : getD (take 2 (drop (2 * i) (drop 2776 mem))) 0 0 ≡ word mem (associationStart i) = record-word mem i 0 (omega arith) ∙ ap (word mem) (omega arith) in
+        rw (a, record-word mem i 1 (omega arith)) refl
+
+-- room for the associations
+pub associations-fit : {mem : List ℕ} → Table mem → Fits 2776 2 2 1000 mem
+associations-fit t = record { some = omega arith; apart = omega arith; room = omega (arith, t .size); few = t .few-associations; short = omega (arith, t .size) }
+
+-- Other associations in their place: few, each of two words.
+module _ {mem : List ℕ} (t : Table mem) {g : List (List ℕ)} (w : Wide 2 g) (few : length g ≤ 1000) where
+  -- the words after
+  after : List ℕ
+  after = regroup 2776 2 2 g mem
+
+  leaves : (from to : ℕ) → (2 < from) ⊎ (to ≤ 2) → (to ≤ 2776) ⊎ (4776 ≤ from) → Same mem after from to
+  unfolding after
+  leaves from to c r = regroup-leaves (associations-fit t) w few from to c r
+
+  header : (i : ℕ) → (i ≡ 2 → ⊥) → i < 8 → word after i ≡ word mem i
+  header i d h = elim (decLt i 2) [
+    | yes l ↦ leaves 0 2 (inr (omega arith)) (inl (omega arith)) .at i (omega arith) l
+    | no l ↦ leaves 3 8 (inl (omega arith)) (inl (omega arith)) .at i (omega (arith, d)) h
+  ]
+
+  -- the policy with those associations
+  pub associations-regrouped : policyOf (regroup 2776 2 2 g mem) ≡ withAssociations (policyOf mem) (map associationIn g)
+  unfolding policyOf after
+  associations-regrouped =
+      let a : associationsOf after ≡ map associationIn g = associations-group after ∙ ap (map associationIn) (group-regrouped (associations-fit t) w few) in
+      rw (
+        elements-same (leaves 8 520 (inl (omega arith)) (inl (omega arith))),
+        processes-same (leaves 520 776 (inl (omega arith)) (inl (omega arith))),
+        assignments-same (header 1 (λ e. omega arith) (omega arith)) (t .few-assignments) (leaves 776 2776 (inl (omega arith)) (inl (omega arith))),
+        prohibitions-same t (header 3 (λ e. omega arith) (omega arith)) (leaves 5776 7976 (inl (omega arith)) (inr (omega arith))),
+        a,
+      ) refl
+
+  -- and the memory is a table
+  pub associations-table : Table (regroup 2776 2 2 g mem)
+  unfolding after
+  associations-table = record {
+    size = length-regrouped (associations-fit t) w few ∙ t .size;
+    marked = header 0 (λ e. omega arith) (omega arith) ∙ t .marked;
+    few-assignments = omega (arith, header 1 (λ e. omega arith) (omega arith), t .few-assignments);
+    few-associations = omega (arith, count-regrouped (associations-fit t) w few);
+    few-prohibitions = omega (arith, header 3 (λ e. omega arith) (omega arith), t .few-prohibitions);
+    rising = rising-same t (header 1 (λ e. omega arith) (omega arith)) (leaves 776 2776 (inl (omega arith)) (inl (omega arith)));
+    small = small-same t (header 1 (λ e. omega arith) (omega arith)) (leaves 776 2776 (inl (omega arith)) (inl (omega arith)));
+    tidy = tidy-same t (header 3 (λ e. omega arith) (omega arith)) (leaves 5776 7976 (inl (omega arith)) (inr (omega arith)));
+  }
+
+-- a record of two words
+two-words : (r : List ℕ) → length r ≡ 2 → r ≡ getD r 0 0 ∷ getD r 1 0 ∷ []
+two-words [] e = absurd (omega arith)
+two-words (a ∷ []) e = absurd (omega arith)
+two-words (a ∷ b ∷ []) e = refl
+two-words (a ∷ b ∷ c ∷ r) e = absurd (omega arith)
+
+-- the fields of a record are its words'
+fields-of : (r : List ℕ) → length r ≡ 2 → r ≡ associationRecord (associationIn r)
+fields-of r e = two-words r e ∙ ap (λ (w : ℕ). w ∷ getD r 1 0 ∷ []) (omega arith)
+
+module _ (a : Association) (h : a .target < 512) where
+  -- a record is read back
+  record-back : associationIn (associationRecord a) ≡ a
+  record-back =
+      let c : (a .attribute * 512 + a .target) / 512 ≡ a .attribute = omega arith in
+      let d : (a .attribute * 512 + a .target) % 512 ≡ a .target = omega arith in
+      rw (c, d) refl
+
+  -- records are in the order of the fields
+  order-kept : (r : List ℕ) → length r ≡ 2 → before (associationRecord a) r ≡ before (associationFields a) (associationFields (associationIn r))
+  order-kept r e =
+      ap (before (associationRecord a)) (fields-of r e)
+      ∙ sym (fields-packed 512 (a .attribute) (a .target) (associationIn r .attribute) (associationIn r .target) (a .rights ∷ []) (associationIn r .rights ∷ []) h (omega arith))
+
+  -- and the same where the fields are
+  same-kept : (r : List ℕ) → length r ≡ 2 → same (associationRecord a) r ≡ same (associationFields a) (associationFields (associationIn r))
+  same-kept r e =
+      ap (same (associationRecord a)) (fields-of r e)
+      ∙ sym (same-packed 512 (a .attribute) (a .target) (associationIn r .attribute) (associationIn r .target) (a .rights ∷ []) (associationIn r .rights ∷ []) h (omega arith))
+
+  -- One association more, and one less.
+  module _ {mem : List ℕ} (t : Table mem) where
+    wide : Wide 2 (group 2776 2 2 mem)
+    wide = wide-group (associations-fit t)
+
+    -- the policy with one association more
+    pub association-put : word mem 2 < 1000 → policyOf (withAssociation a mem) ≡ withAssociations (policyOf mem) (put associationFields a (policyOf mem .associations))
+    unfolding withAssociation policyOf
+    association-put few =
+        associations-regrouped t (wide-put wide (associationRecord a) (λ r. r) refl) (put-few (λ r. r) (associationRecord a) (associations-fit t) few)
+        ∙ ap (withAssociations (policyOf mem)) (
+        map-put associationIn (λ r. r) associationFields (associationRecord a) (group 2776 2 2 mem) (λ r i. order-kept r (wide .each r i) ∙ ap (λ b. before (associationFields b) (associationFields (associationIn r))) (sym record-back))
+        ∙ rw (record-back, ← associations-group mem) refl)
+
+    -- and the memory is a table
+    pub association-put-table : word mem 2 < 1000 → Table (withAssociation a mem)
+    unfolding withAssociation
+    association-put-table few = associations-table t (wide-put wide (associationRecord a) (λ r. r) refl) (put-few (λ r. r) (associationRecord a) (associations-fit t) few)
+
+    -- the policy with one association less
+    pub association-less : policyOf (withoutAssociation a mem) ≡ withAssociations (policyOf mem) (lessFirst (λ b. same (associationFields a) (associationFields b)) (policyOf mem .associations))
+    unfolding withoutAssociation policyOf
+    association-less =
+        associations-regrouped t (wide-less wide (same (associationRecord a))) (less-few (same (associationRecord a)) (associations-fit t))
+        ∙ ap (withAssociations (policyOf mem)) (
+        map-less associationIn (same (associationRecord a)) (λ b. same (associationFields a) (associationFields b)) (group 2776 2 2 mem) (λ r i. same-kept r (wide .each r i))
+        ∙ rw (← associations-group mem) refl)
+
+    -- and the memory is a table
+    pub association-less-table : Table (withoutAssociation a mem)
+    unfolding withoutAssociation
+    association-less-table = associations-table t (wide-less wide (same (associationRecord a))) (less-few (same (associationRecord a)) (associations-fit t))
+
+    -- the association is there exactly if its record is found
+    pub association-found : {at : ℕ} → at ≡ firstOf (same (associationRecord a)) (records 2 (word mem 2) (drop 2776 mem)) → ltb at (word mem 2) ≡ hasAssociation (policyOf mem) a
+    unfolding hasAssociation policyOf
+    association-found q =
+        record-found associationIn (λ b. same (associationFields a) (associationFields b)) (associationRecord a) 2776 2 2 mem q (λ r i. same-kept r (wide .each r i))
+        ∙ ap (anyOf (λ b. same (associationFields a) (associationFields b))) (sym (associations-group mem))

@@ -1,0 +1,167 @@
+-- Elements and processes: the policy after one word that stands by id is set.
+-- Assumes nothing.
+use mathlib.Core.Path.{_≡_, refl, ap, _∙_}
+use mathlib.Core.Bool.{Bool, true, false, _&&_}
+use mathlib.Core.List.{List, [], _∷_}
+use mathlib.Core.Logic.{_⊎_, inl, inr, ⊎-elim}
+use Prim.Native.Nat.{ℕ, suc, _+_, _-_, _≤_, _<_}
+use native.Mathlib.Omega.{arith}
+use native.Mathlib.Decide.{decLt}
+use borrow.Author.Tests.{leb-true}
+use lib.Dec.{eqb, leb}
+use lib.ListN.{length, set, length-set}
+use lib.Seq.{getD-set-same, getD-set-other}
+use Rattle.model.specs.Lists.{those, lessFirst, tabulate, put}
+use Rattle.model.specs.Policy.{Element, Process, elementKey, processKey, isKind, isElementId, kindOf, userOf, withElements, withProcesses}
+use Rattle.model.proofs.Truth.{and-right, fails-when}
+use Rattle.table.specs.Layout.{word, kindWord, userWord}
+use Rattle.table.specs.View.{elementsOf, processesOf, assignmentsOf, associationsOf, prohibitionsOf, policyOf}
+use Rattle.table.specs.Facts.{Table}
+use Rattle.table.proofs.ById.{kind-is, user-is}
+use Rattle.store.specs.Words.{withKind, withUser}
+use Rattle.store.proofs.Frames.{Same, elements-same, processes-same, assignments-same, associations-same, prohibitions-same, tidy-same, rising-same, small-same}
+use Rattle.store.proofs.Slots.{slot-put, slot-less}
+
+-- a word that reads 0 is not 1 to top
+reads-none : (w r top : ℕ) → (w ≤ top → w ≡ r) → r ≡ 0 → (leb 1 w && leb w top) ≡ false
+reads-none w r top h z = elim (decLt top w) [
+  | yes l ↦ fails-when (leb 1 w && leb w top) (λ e. omega (arith, leb-true w top (and-right (leb 1 w) (leb w top) e)))
+  | no l ↦ ap (λ v. leb 1 v && leb v top) (h (omega arith) ∙ z)
+]
+
+-- an element that is not there has no kind in its word
+not-kind : (mem : List ℕ) (x : ℕ) → 1 ≤ x → x ≤ 511 → kindOf (policyOf mem) x ≡ 0 → isKind (kindWord mem x) ≡ false
+unfolding isKind
+not-kind mem x l h z = reads-none (kindWord mem x) (kindOf (policyOf mem) x) 5 (kind-is mem x l h) z
+
+-- a process that is not there has no user in its word
+not-user : (mem : List ℕ) (i : ℕ) → 1 ≤ i → i ≤ 255 → userOf (policyOf mem) i ≡ 0 → isElementId (userWord mem i) ≡ false
+unfolding isElementId
+not-user mem i l h z = reads-none (userWord mem i) (userOf (policyOf mem) i) 511 (user-is mem i l h) z
+
+-- one word set leaves the words elsewhere
+set-same : (mem : List ℕ) (at v from to : ℕ) → (at < from) ⊎ (to ≤ at) → Same mem (set mem at v) from to
+set-same mem at v from to h = record { at = λ i a b. getD-set-other mem at i v 0 (λ e. ⊎-elim (λ l. omega arith) (λ l. omega arith) h) }
+
+-- A word below the groups is set: all groups but the one that it is of stay, and the memory is a table.
+module _ {mem : List ℕ} (t : Table mem) (at v : ℕ) (low : 8 ≤ at) (high : at < 776) where
+  -- the counts stay
+  header : (i : ℕ) → i < 8 → word (set mem at v) i ≡ word mem i
+  header i h = getD-set-other mem at i v 0 (λ e. omega arith)
+
+  pub slot-table : Table (set mem at v)
+  slot-table = record {
+    size = length-set mem at v ∙ t .size;
+    marked = header 0 (omega arith) ∙ t .marked;
+    few-assignments = omega (arith, header 1 (omega arith), t .few-assignments);
+    few-associations = omega (arith, header 2 (omega arith), t .few-associations);
+    few-prohibitions = omega (arith, header 3 (omega arith), t .few-prohibitions);
+    rising = rising-same t (header 1 (omega arith)) (set-same mem at v 776 2776 (inl (omega arith)));
+    small = small-same t (header 1 (omega arith)) (set-same mem at v 776 2776 (inl (omega arith)));
+    tidy = tidy-same t (header 3 (omega arith)) (set-same mem at v 5776 7976 (inl (omega arith)));
+  }
+
+  slot-assignments : assignmentsOf (set mem at v) ≡ assignmentsOf mem
+  slot-assignments = assignments-same (header 1 (omega arith)) (t .few-assignments) (set-same mem at v 776 2776 (inl (omega arith)))
+
+  slot-associations : associationsOf (set mem at v) ≡ associationsOf mem
+  slot-associations = associations-same (header 2 (omega arith)) (t .few-associations) (set-same mem at v 2776 4776 (inl (omega arith)))
+
+  slot-prohibitions : prohibitionsOf (set mem at v) ≡ prohibitionsOf mem
+  slot-prohibitions = prohibitions-same t (header 3 (omega arith)) (set-same mem at v 5776 7976 (inl (omega arith)))
+
+-- Records by id from a place in the words on: one word set, one record in its place or out.
+module _ {A : Type 0} (id : A → ℕ) (make : (i value : ℕ) → A) (numbered : (i v : ℕ) → id (make i v) ≡ i) (good : A → Bool) (base n : ℕ) where
+  -- the records that the words are
+  abbrev listed : List ℕ → List A
+  listed mem = those good (tabulate n (λ i. make (suc i) (word mem (base + suc i))))
+
+  module _ (mem : List ℕ) (x v : ℕ) (low : 1 ≤ x) (high : x ≤ n) (long : base + x < length mem) where
+    -- only the record of x differs
+    others : (j : ℕ) → (j ≡ x - 1 → ⊥) → make (suc j) (word (set mem (base + x) v) (base + suc j)) ≡ make (suc j) (word mem (base + suc j))
+    others j d = ap (make (suc j)) (getD-set-other mem (base + x) (base + suc j) v 0 (λ e. d (omega arith)))
+
+    -- and it has the value that was set
+    this : make (suc (x - 1)) (word (set mem (base + x) v) (base + suc (x - 1))) ≡ make x v
+    this = let e : suc (x - 1) ≡ x = omega arith in rw e (ap (make x) (getD-set-same mem (base + x) v 0 long))
+
+    -- a record that was not there is put in its place
+    slot-in : good (make x (word mem (base + x))) ≡ false → good (make x v) ≡ true → listed (set mem (base + x) v) ≡ put (λ a. id a ∷ []) (make x v) (listed mem)
+    slot-in b g =
+        let e : suc (x - 1) ≡ x = omega arith in
+        slot-put id good n (x - 1) 1 (λ i. make (suc i) (word mem (base + suc i))) (λ i. make (suc i) (word (set mem (base + x) v) (base + suc i)))
+        (λ j. omega (arith, numbered (suc j) (word mem (base + suc j)))) (omega arith) others
+        (omega (arith, numbered (suc (x - 1)) (word (set mem (base + x) v) (base + suc (x - 1))))) (rw e b) (ap good this ∙ g)
+        ∙ ap (λ a. put (λ a. id a ∷ []) a (listed mem)) this
+
+    -- a record is taken out
+    slot-out : good (make x v) ≡ false → listed (set mem (base + x) v) ≡ lessFirst (λ a. eqb x (id a)) (listed mem)
+    slot-out b =
+        slot-less id good n (x - 1) 1 x (λ i. make (suc i) (word mem (base + suc i))) (λ i. make (suc i) (word (set mem (base + x) v) (base + suc i)))
+        (λ j. omega (arith, numbered (suc j) (word mem (base + suc j)))) (omega arith) others (omega arith) (ap good this ∙ b)
+
+-- The elements.
+module _ {mem : List ℕ} (t : Table mem) (x k : ℕ) (low : 1 ≤ x) (high : x ≤ 511) where
+  -- the memory is a table
+  pub kind-table : Table (withKind x k mem)
+  unfolding withKind
+  kind-table = slot-table t (8 + x) k (omega arith) (omega arith)
+
+  -- the policy but for its elements
+  kind-rest : policyOf (set mem (8 + x) k) ≡ withElements (policyOf mem) (elementsOf (set mem (8 + x) k))
+  unfolding policyOf
+  kind-rest =
+      rw (
+        slot-assignments t (8 + x) k (omega arith) (omega arith),
+        slot-associations t (8 + x) k (omega arith) (omega arith),
+        slot-prohibitions t (8 + x) k (omega arith) (omega arith),
+        processes-same (set-same mem (8 + x) k 520 776 (inl (omega arith))),
+      ) refl
+
+  -- an element by id and kind
+  abbrev element : ℕ → ℕ → Element
+  element i v = record { id = i; kind = v }
+
+  -- An element that was not there is put in its place.
+  pub kind-put : kindOf (policyOf mem) x ≡ 0 → isKind k ≡ true
+      → policyOf (withKind x k mem) ≡ withElements (policyOf mem) (put elementKey (record { id = x; kind = k }) (policyOf mem .elements))
+  unfolding withKind policyOf elementsOf
+  kind-put z g = kind-rest ∙ ap (withElements (policyOf mem)) (slot-in (λ (e : Element). e .id) element (λ i v. refl) (λ e. isKind (e .kind)) 8 511 mem x k low high (omega (arith, t .size)) (not-kind mem x low high z) g)
+
+  -- An element is taken out.
+  pub kind-less : isKind k ≡ false → policyOf (withKind x k mem) ≡ withElements (policyOf mem) (lessFirst (λ e. eqb x (e .id)) (policyOf mem .elements))
+  unfolding withKind policyOf elementsOf
+  kind-less b = kind-rest ∙ ap (withElements (policyOf mem)) (slot-out (λ (e : Element). e .id) element (λ i v. refl) (λ e. isKind (e .kind)) 8 511 mem x k low high (omega (arith, t .size)) b)
+
+-- The processes.
+module _ {mem : List ℕ} (t : Table mem) (p u : ℕ) (low : 1 ≤ p) (high : p ≤ 255) where
+  -- the memory is a table
+  pub user-table : Table (withUser p u mem)
+  unfolding withUser
+  user-table = slot-table t (520 + p) u (omega arith) (omega arith)
+
+  -- the policy but for its processes
+  user-rest : policyOf (set mem (520 + p) u) ≡ withProcesses (policyOf mem) (processesOf (set mem (520 + p) u))
+  unfolding policyOf
+  user-rest =
+      rw (
+        elements-same (set-same mem (520 + p) u 8 520 (inr (omega arith))),
+        slot-assignments t (520 + p) u (omega arith) (omega arith),
+        slot-associations t (520 + p) u (omega arith) (omega arith),
+        slot-prohibitions t (520 + p) u (omega arith) (omega arith),
+      ) refl
+
+  -- a process by id and user
+  abbrev process : ℕ → ℕ → Process
+  process i v = record { id = i; owner = v }
+
+  -- A process that was not there is put in its place.
+  pub user-put : userOf (policyOf mem) p ≡ 0 → isElementId u ≡ true
+      → policyOf (withUser p u mem) ≡ withProcesses (policyOf mem) (put processKey (record { id = p; owner = u }) (policyOf mem .processes))
+  unfolding withUser policyOf processesOf
+  user-put z g = user-rest ∙ ap (withProcesses (policyOf mem)) (slot-in (λ (q : Process). q .id) process (λ i v. refl) (λ q. isElementId (q .owner)) 520 255 mem p u low high (omega (arith, t .size)) (not-user mem p low high z) g)
+
+  -- A process is taken out.
+  pub user-less : isElementId u ≡ false → policyOf (withUser p u mem) ≡ withProcesses (policyOf mem) (lessFirst (λ q. eqb p (q .id)) (policyOf mem .processes))
+  unfolding withUser policyOf processesOf
+  user-less b = user-rest ∙ ap (withProcesses (policyOf mem)) (slot-out (λ (q : Process). q .id) process (λ i v. refl) (λ q. isElementId (q .owner)) 520 255 mem p u low high (omega (arith, t .size)) b)

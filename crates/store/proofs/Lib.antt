@@ -1,0 +1,12 @@
+pub mod Frames
+pub mod Slots
+pub mod Ids
+pub mod Mapped
+pub mod Regroups
+pub mod Looked
+pub mod Assigned
+pub mod Associated
+pub mod Stored
+pub mod Recorded
+pub mod Prohibited
+pub mod ProhibitionStored

@@ -1,0 +1,47 @@
+use Rattle.table.proofs.Checks.{order-none, order-falls, order-last}
+use borrow.Author.Needs.{needs}
+use Rattle.table.proofs.are_in_order.Statement.{statement}
+use Rattle.table.proofs.are_in_order.Tie as tie
+use Rattle.table.proofs.are_in_order.Reads as reads
+use Rattle.table.proofs.are_in_order.Lts as lts
+use Rattle.table.proofs.are_rising.Reads as are-rising-reads
+
+-- src/lib.rt:127:9
+returns : tie.Need-returns
+returns c = search order-none
+
+-- src/lib.rt:129:9
+are-rising-requires : tie.Need-are-rising-requires
+are-rising-requires c κs = search needs
+
+-- src/lib.rt:130:9
+returns-2 : tie.Need-returns-2
+returns-2 c = search order-falls
+
+-- src/lib.rt:132:9
+add-result : tie.Need-add-result
+add-result c = search needs
+
+-- src/lib.rt:132:5
+mul-result : tie.Need-mul-result
+mul-result c = search needs
+
+-- src/lib.rt:132:5
+shared-slice-read-result : tie.Need-shared-slice-read-result
+shared-slice-read-result c = search needs
+
+-- src/lib.rt:121:1
+returns-3 : tie.Need-returns-3
+returns-3 c = search order-last
+
+pub are-in-order-spec : {M : Type 1} → statement M
+are-in-order-spec =
+    tie.close
+    (tie.spec
+    returns
+    are-rising-requires
+    returns-2
+    add-result
+    mul-result
+    shared-slice-read-result
+    returns-3)

@@ -1,0 +1,75 @@
+use native.Mathlib.Omega.{arith}
+use Prim.Native.Nat.{_-_}
+use Rattle.table.proofs.Checks.{RiseTo, rise-none, rise-more, rise-all}
+use Rattle.table.proofs.are_rising.Statement.{statement}
+use Rattle.table.proofs.are_rising.Tie as tie
+use Rattle.table.proofs.are_rising.Reads as reads
+use Rattle.table.proofs.are_rising.Lts as lts
+
+abbrev Inv-loop : tie.InvT-loop
+Inv-loop mem n up₀ i₀ up i = RiseTo mem n up i
+
+abbrev μ-loop : tie.MeasureT-loop
+μ-loop mem n up₀ i₀ up i = n - i
+
+-- src/lib.rt:113:5
+loop-holds : tie.Need-loop-holds Inv-loop μ-loop
+loop-holds c = rise-none _ _ (omega arith)
+
+-- src/lib.rt:114:24
+add-up : tie.Need-add-up Inv-loop μ-loop
+add-up c = omega arith
+
+-- src/lib.rt:114:20
+mul-up : tie.Need-mul-up Inv-loop μ-loop
+mul-up c = omega arith
+
+-- src/lib.rt:114:20
+shared-slice-read-up : tie.Need-shared-slice-read-up Inv-loop μ-loop
+shared-slice-read-up c = omega arith
+
+-- src/lib.rt:114:39
+add-up-2 : tie.Need-add-up-2 Inv-loop μ-loop
+add-up-2 c = omega arith
+
+-- src/lib.rt:114:35
+mul-up-2 : tie.Need-mul-up-2 Inv-loop μ-loop
+mul-up-2 c = omega arith
+
+-- src/lib.rt:114:35
+shared-slice-read-up-2 : tie.Need-shared-slice-read-up-2 Inv-loop μ-loop
+shared-slice-read-up-2 c = omega arith
+
+-- src/lib.rt:115:9
+add-i : tie.Need-add-i Inv-loop μ-loop
+add-i c = omega arith
+
+-- src/lib.rt:113:5
+loop-less : tie.Need-loop-less Inv-loop μ-loop
+loop-less c = omega arith
+
+-- src/lib.rt:113:5
+loop-again : tie.Need-loop-again Inv-loop μ-loop
+loop-again c = search rise-more
+
+-- src/lib.rt:105:1
+returns : tie.Need-returns Inv-loop μ-loop
+returns c = search rise-all
+
+pub are-rising-spec : {M : Type 1} → statement M
+are-rising-spec =
+    tie.close
+    (tie.spec
+    Inv-loop
+    μ-loop
+    loop-holds
+    add-up
+    mul-up
+    shared-slice-read-up
+    add-up-2
+    mul-up-2
+    shared-slice-read-up-2
+    add-i
+    loop-less
+    loop-again
+    returns)

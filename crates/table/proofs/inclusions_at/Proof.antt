@@ -1,0 +1,46 @@
+use Rattle.table.proofs.Listed.{inclusions-few}
+use borrow.Author.Needs.{needs}
+use Rattle.table.proofs.inclusions_at.Statement.{statement}
+use Rattle.table.proofs.inclusions_at.Tie as tie
+use Rattle.table.proofs.inclusions_at.Reads as reads
+use Rattle.table.proofs.inclusions_at.Lts as lts
+
+-- src/lib.rt:314:17
+mul-result : tie.Need-mul-result
+mul-result c = search needs
+
+-- src/lib.rt:314:10
+add-result : tie.Need-add-result
+add-result c = search needs
+
+-- src/lib.rt:314:10
+add-result-2 : tie.Need-add-result-2
+add-result-2 c = search needs
+
+-- src/lib.rt:314:6
+mul-result-2 : tie.Need-mul-result-2
+mul-result-2 c = search needs
+
+-- src/lib.rt:314:6
+shared-slice-read-result : tie.Need-shared-slice-read-result
+shared-slice-read-result c = search needs
+
+-- src/lib.rt:314:5
+cast-result : tie.Need-cast-result
+cast-result c = search needs
+
+-- src/lib.rt:309:1
+returns : tie.Need-returns
+returns c = search inclusions-few
+
+pub inclusions-at-spec : {M : Type 1} → statement M
+inclusions-at-spec =
+    tie.close
+    (tie.spec
+    mul-result
+    add-result
+    add-result-2
+    mul-result-2
+    shared-slice-read-result
+    cast-result
+    returns)

@@ -1,0 +1,30 @@
+use Rattle.table.proofs.Empty.{new-refused, new-done}
+use borrow.Author.Needs.{needs}
+use Rattle.table.proofs.new.Statement.{statement}
+use Rattle.table.proofs.new.Tie as tie
+use Rattle.table.proofs.new.Reads as reads
+use Rattle.table.proofs.new.Lts as lts
+use Rattle.group.proofs.clear.Reads as clear-reads
+
+-- src/lib.rt:203:9
+returns : tie.Need-returns
+returns c = search new-refused
+
+-- src/lib.rt:205:5
+clear-requires : tie.Need-clear-requires
+clear-requires c κs = search needs
+
+-- src/lib.rt:206:5
+slice-write-mem : tie.Need-slice-write-mem
+slice-write-mem c = search needs
+
+-- src/lib.rt:199:1
+same-length : tie.Need-same-length
+same-length c = search needs
+
+-- src/lib.rt:199:1
+returns-2 : tie.Need-returns-2
+returns-2 c = search new-done
+
+pub new-spec : {M : Type 1} → statement M
+new-spec = tie.close (tie.spec returns clear-requires slice-write-mem same-length returns-2)
