@@ -162,7 +162,7 @@ impl Script {
     }
 }
 
-/// The stored script: a chain of 500, a ladder of 250 levels, element 511, assignment 2,000, cycles, elements that
+/// The stored script: a chain of 500 and of 511, a ladder of 250 levels, element 511, assignment 2,000, cycles, elements that
 /// are not there, foreign and short indexes, spoilt memory, and bits at every place.
 pub fn leaves_script() -> Vec<u8> {
     let mut script = Script(Vec::new());
@@ -180,16 +180,15 @@ pub fn leaves_script() -> Vec<u8> {
     script.0
 }
 
-/// A chain of 500 elements, the ids in no order: each is within all later ones.
+/// A chain of 500 elements, then of all 511, the ids in no order: each is within all later ones.
 fn chain(script: &mut Script, random: &mut Random) {
     script.alone(b'N');
     let mut ids: Vec<u32> = (1..=511).collect();
     random.shuffle(&mut ids);
-    ids.truncate(500);
-    for id in &ids {
+    for id in &ids[..500] {
         script.two(b'K', *id, 2);
     }
-    for pair in ids.windows(2) {
+    for pair in ids[..500].windows(2) {
         script.two(b'A', pair[0], pair[1]);
     }
     script.alone(b'B');
@@ -197,11 +196,19 @@ fn chain(script: &mut Script, random: &mut Random) {
     for (i, j) in [(0, 499), (499, 0), (0, 1), (1, 0), (250, 499), (499, 250), (7, 7), (0, 498)] {
         script.ask(ids[i], ids[j]);
     }
+    for pair in ids[499..].windows(2) {
+        script.two(b'K', pair[1], 2);
+        script.two(b'A', pair[0], pair[1]);
+    }
+    script.alone(b'B');
+    for (i, j) in [(0, 510), (510, 0), (499, 510), (500, 499)] {
+        script.ask(ids[i], ids[j]);
+    }
     // one link less parts the chain
     script.two(b'D', ids[300], ids[301]);
     script.alone(b'T');
     script.alone(b'B');
-    for (i, j) in [(0, 300), (0, 301), (300, 301), (301, 499)] {
+    for (i, j) in [(0, 300), (0, 301), (300, 301), (301, 510)] {
         script.ask(ids[i], ids[j]);
     }
 }

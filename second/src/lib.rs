@@ -5,7 +5,7 @@
 //! assignments, one sentence of 01 after the other.
 //!
 //! Arguments of calls are `u32`, so that numbers out of range can be tried. A refusal is 01's number.
-//! Refusal 1 speaks of working memory; this program has none, so it never gives 1.
+//! Refusal 1 speaks of working memory; this program has none, so only `leaves` gives it, where a script says so.
 
 pub mod command;
 pub mod decide;
