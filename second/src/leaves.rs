@@ -6,8 +6,9 @@
 //! |---|---|---|
 //! | `N` | makes the empty table | |
 //! | `X` | spoils the memory, so that it holds no table | |
-//! | `K` | gives element a kind b, 0 for none | |
-//! | `A` | puts in the assignment of a to b | `R 10` at the limit |
+//! | `K` | gives element a kind b, 0 for none | `R 2` for a b above 5 |
+//! | `Y` | puts b, a number above 5, where the kind of element a stands: the element is none | |
+//! | `A` | puts in the assignment of a to b | `R 3` where it is there, `R 10` at the limit |
 //! | `D` | takes out the assignment of a to b | |
 //! | `U` | takes out all assignments of a | |
 //! | `C` | asks whether a is within b | `C 1`, `C 0` or `R n` |
@@ -19,12 +20,12 @@
 //! | `P` | writes the a low bits of v from bit b on | |
 //! | `G` | reads a bits from bit b on | `G n`, or `R 12` where the 64 bytes end before |
 //!
-//! On memory that holds no table every step about the table or its index, but `N`, `X`, `F` and `I`, prints `R 1`.
+//! On memory that holds no table every step about the table or its index, but `N`, `X`, `Y`, `F` and `I`, prints `R 1`.
 
 use crate::index::{bit, build_index, is_index, INDEX_BYTES};
 use crate::make::Random;
 use crate::policy::{contains, Policy};
-use crate::refusal::{LENGTH, NO_ROOM, OUT_OF_RANGE};
+use crate::refusal::{ALREADY_THERE, LENGTH, NO_ROOM, OUT_OF_RANGE};
 
 /// Refusal 1: the memory holds no table.
 const NO_TABLE: u32 = 1;
@@ -59,12 +60,14 @@ impl State {
         };
         let (x, y) = ((a % 512) as u16, (b % 512) as u16);
         match letter {
+            b'K' if b > 5 => self.say('R', OUT_OF_RANGE),
             b'K' => {
                 policy.elements.remove(&x);
-                if x > 0 && (1..=5).contains(&b) {
+                if x > 0 && b > 0 {
                     policy.elements.insert(x, b as u8);
                 }
             }
+            b'A' if policy.assignments.contains(&(x, y)) => self.say('R', ALREADY_THERE),
             b'A' if policy.assignments.len() >= 2_000 => self.say('R', NO_ROOM),
             b'A' => {
                 policy.assignments.insert((x, y));
@@ -96,6 +99,11 @@ impl State {
         match letter {
             b'N' => self.table = Some(Policy::new()),
             b'X' => self.table = None,
+            b'Y' => {
+                if let Some(policy) = &mut self.table {
+                    policy.elements.remove(&((a % 512) as u16));
+                }
+            }
             b'K' | b'A' | b'D' | b'U' => self.change(letter, a, b),
             b'C' => {
                 let answer = self.table.as_ref().ok_or(NO_TABLE).and_then(|policy| contains(policy, a, b));
@@ -239,40 +247,42 @@ fn limits(script: &mut Script) {
         script.two(b'K', id, 4);
     }
     let mut given = 0;
-    'all: for child in 1..=511 {
+    'all: for container in (2..=511).rev() {
         for step in 1..=4 {
-            if child + step <= 511 {
+            if step < container {
                 if given == 2_000 {
                     break 'all;
                 }
-                script.two(b'A', child, child + step);
+                script.two(b'A', container - step, container);
                 given += 1;
             }
         }
     }
     // one more is not stored
     script.two(b'A', 511, 1);
+    script.two(b'A', 510, 511);
     script.alone(b'B');
-    script.ask(1, 511);
-    script.two(b'C', 511, 1);
+    script.ask(500, 511);
+    script.ask(20, 511);
+    script.ask(511, 510);
     for (x, y) in [(511, 511), (0, 1), (1, 0), (512, 1), (1, 512), (65_535, 511)] {
         script.two(b'C', x, y);
     }
     // room of one removed can be used again
-    script.two(b'D', 1, 2);
-    script.two(b'A', 511, 1);
+    script.two(b'D', 510, 511);
+    script.two(b'A', 511, 500);
     script.alone(b'T');
     script.alone(b'B');
     script.alone(b'T');
-    script.ask(511, 2);
-    script.ask(1, 2);
+    script.ask(511, 509);
+    script.ask(510, 511);
     script.two(b'A', 511, 2);
     // all assignments of one element
-    script.two(b'U', 4, 0);
+    script.two(b'U', 509, 0);
     script.alone(b'B');
-    script.ask(4, 5);
-    script.ask(3, 5);
-    script.ask(4, 4);
+    script.ask(509, 510);
+    script.ask(508, 510);
+    script.ask(509, 509);
 }
 
 /// Cycles, elements that are not there on a chain, a foreign and a short index, spoilt memory.
@@ -295,6 +305,8 @@ fn odd_tables(script: &mut Script, random: &mut Random) {
     script.ask(3, 4);
     script.two(b'K', 4, 6);
     script.two(b'C', 3, 4);
+    script.two(b'Y', 4, 6);
+    script.two(b'C', 3, 4);
     script.alone(b'B');
     script.alone(b'T');
     // a foreign index, a short one
@@ -309,7 +321,9 @@ fn odd_tables(script: &mut Script, random: &mut Random) {
         script.alone(b'N');
         let most = random.between(2, 40);
         for _ in 0..60 {
-            script.two(b'K', random.between(1, most), random.below(8));
+            let kind = random.below(8);
+            let letter = if kind > 5 { b'Y' } else { b'K' };
+            script.two(letter, random.between(1, most), kind);
         }
         let mut given = std::collections::BTreeSet::new();
         for _ in 0..random.between(0, 80) {

@@ -23,16 +23,12 @@ fn small_scripts() {
     assert_eq!(run(&[step(b'C', 1, 1)]), "R 1\n");
     assert_eq!(run(&[step(b'N', 0, 0), step(b'C', 1, 1)]), "R 4\n");
     let two = [step(b'N', 0, 0), step(b'K', 1, 1), step(b'K', 2, 2), step(b'A', 1, 2), step(b'B', 0, 0)];
+    let after = |steps: &[[u8; 9]]| run(&[&two[..], steps].concat());
     assert_eq!(
-        run(&[&two[..], &[step(b'C', 1, 2), step(b'C', 2, 1), step(b'I', 1, 2), step(b'T', 0, 0)]].concat()),
+        after(&[step(b'C', 1, 2), step(b'C', 2, 1), step(b'I', 1, 2), step(b'T', 0, 0)]),
         "C 1\nC 0\nI 1\nT 1\n"
     );
-    assert_eq!(
-        run(&[&two[..], &[step(b'D', 1, 2), step(b'C', 1, 2), step(b'T', 0, 0)]].concat()),
-        "C 0\nT 0\n"
-    );
-    assert_eq!(
-        run(&[step(b'P', 4, 6), step(b'G', 4, 6), step(b'G', 32, 255), step(b'G', 255, 255)]),
-        "G 0\nG 0\nG 0\n"
-    );
+    assert_eq!(after(&[step(b'D', 1, 2), step(b'C', 1, 2), step(b'T', 0, 0)]), "C 0\nT 0\n");
+    assert_eq!(after(&[step(b'A', 1, 2), step(b'K', 1, 6), step(b'C', 1, 2)]), "R 3\nR 2\nC 1\n");
+    assert_eq!(run(&[step(b'P', 4, 6), step(b'G', 4, 6), step(b'G', 32, 255)]), "G 0\nG 0\n");
 }

@@ -10,9 +10,9 @@ use native.Mathlib.Omega.{arith}
 use lib.ListN.{length}
 use Rattle.model.specs.Bits.{bitsN, bitsOf, numAt}
 use Rattle.model.specs.Refusal.{accepted, answer}
-use Rattle.model.proofs.Image.Bits.{length-bitsN, length-bitsOf}
+use Rattle.model.proofs.Image.Bits.{length-bitsN, length-bitsOf, num-low}
 use Rattle.bits.specs.Cursor.{reading, written, There, Taken, Written}
-use Rattle.bits.proofs.Spelling.{num-low, numbers-join}
+use Rattle.bits.proofs.Spelling.{numbers-join}
 use Rattle.bits.proofs.Places.{reads-join, read-lt, length-written, at-written, before-written, after-written, writes-join, writes-apart}
 use Rattle.bits.proofs.Answers.{read-there}
 

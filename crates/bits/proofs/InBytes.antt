@@ -15,9 +15,9 @@ use lib.Seq.{length-take-le, split-at, set-split}
 use Rattle.model.specs.Bits.{bitsN, bitsOf, numAt}
 use Rattle.model.specs.Lists.{allOf}
 use Rattle.model.proofs.Truth.{and-cut, and-join}
-use Rattle.model.proofs.Image.Bits.{areBytes, length-bitsN, split, length-bitsOf}
+use Rattle.model.proofs.Image.Bits.{areBytes, length-bitsN, split, length-bitsOf, num-low, high}
 use Rattle.bits.specs.Cursor.{written}
-use Rattle.bits.proofs.Spelling.{num-low, low, high}
+use Rattle.bits.proofs.Spelling.{low}
 use Rattle.bits.proofs.Places.{middle, write-middle}
 
 -- the bits of bytes and more bytes behind them

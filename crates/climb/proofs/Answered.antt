@@ -4,7 +4,6 @@ use mathlib.Core.Path.{_≡_, refl, sym, ap, _∙_}
 use mathlib.Core.Bool.{Bool, true, false, not, _&&_}
 use mathlib.Core.List.{List}
 use Prim.Native.Nat.{ℕ, _<_}
-use native.Mathlib.Omega.{arith}
 use borrow.Author.Tests.{not-true, not-false}
 use lib.ListN.{getD}
 use Rattle.model.specs.Policy.{isElementId, isThere}
@@ -15,6 +14,7 @@ use Rattle.model.specs.Calls.{contains}
 use Rattle.model.proofs.Truth.{fails-when}
 use Rattle.table.specs.View.{holdsTable, policyOf, memory}
 use Rattle.table.proofs.Asked.{not-both, both}
+use Rattle.table.proofs.Outcomes.{never}
 use Rattle.climb.specs.Marking.{marksOf}
 use Rattle.climb.specs.Answers.{told}
 use Rattle.climb.specs.declared.Containment.{Containment}
@@ -69,11 +69,11 @@ module _ (mem : List ℕ) (x y : ℕ) {r : Bool} (e : r ≡ holdsTable mem) wher
 pub unique : (c d : Containment) → told c ≡ told d → c ≡ d
 unfolding told
 unique Within Within e = refl
-unique Within Outside e = let z : _≡_ {A = ℕ} 0 1 = cc in absurd (omega arith)
-unique Within (Refused n) e = let z : _≡_ {A = ℕ} 0 1 = cc in absurd (omega arith)
-unique Outside Within e = let z : _≡_ {A = ℕ} 0 1 = cc in absurd (omega arith)
+unique Within Outside e = never (cc)
+unique Within (Refused n) e = never (cc)
+unique Outside Within e = never (cc)
 unique Outside Outside e = refl
-unique Outside (Refused n) e = let z : _≡_ {A = ℕ} 0 1 = cc in absurd (omega arith)
-unique (Refused m) Within e = let z : _≡_ {A = ℕ} 0 1 = cc in absurd (omega arith)
-unique (Refused m) Outside e = let z : _≡_ {A = ℕ} 0 1 = cc in absurd (omega arith)
+unique Outside (Refused n) e = never (cc)
+unique (Refused m) Within e = never (cc)
+unique (Refused m) Outside e = never (cc)
 unique (Refused m) (Refused n) e = let z : m ≡ n = cc in ap Refused z

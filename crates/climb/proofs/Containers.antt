@@ -3,7 +3,7 @@
 use mathlib.Core.Path.{_≡_, ap}
 use mathlib.Core.List.{List}
 use mathlib.Core.Logic.{_⊎_, inl, inr}
-use Prim.Native.Nat.{ℕ, _+_, _*_, _-_, _≤_, _<_}
+use Prim.Native.Nat.{ℕ, _+_, _*_, _%_, _≤_, _<_}
 use native.Mathlib.Omega.{arith}
 use native.Mathlib.Decide.{decLt}
 use Rattle.model.specs.Contain.{Assigned}
@@ -15,19 +15,19 @@ use Rattle.climb.specs.Queued.{Container}
 
 module _ {mem : List ℕ} {x : ℕ} where
   -- before the first assignment of x there is none of x
-  pub among-none : {r : ℕ} → FirstOf mem x r → (y : ℕ) → AmongFirst mem r x y → ⊥
-  among-none f y e = omega (arith, f .before (e .at) (e .early))
+  pub none-before : {r : ℕ} → FirstOf mem x r → (y : ℕ) → AmongFirst mem r x y → ⊥
+  none-before f y e = omega (arith, f .before (e .at) (e .early))
 
   -- what is among the first i is among the first i + 1
-  pub among-more : {i : ℕ} (y : ℕ) → AmongFirst mem i x y → AmongFirst mem (i + 1) x y
-  among-more y e = record { at = e .at; early = omega arith; is = e .is; small = e .small }
+  pub still-among : {i : ℕ} (y : ℕ) → AmongFirst mem i x y → AmongFirst mem (i + 1) x y
+  still-among y e = record { at = e .at; early = omega arith; is = e .is; small = e .small }
 
   -- an assignment of x names its container
-  pub among-last : (i : ℕ) → x * 512 ≤ assignmentWord mem i → assignmentWord mem i < (x + 1) * 512 → (y : ℕ) → y ≡ assignmentWord mem i - x * 512 → AmongFirst mem (i + 1) x y
+  pub among-last : (i : ℕ) → x * 512 ≤ assignmentWord mem i → assignmentWord mem i < (x + 1) * 512 → (y : ℕ) → y ≡ assignmentWord mem i % 512 → AmongFirst mem (i + 1) x y
   among-last i l h y e = record { at = i; early = omega arith; is = omega arith; small = omega arith }
 
   -- what is among the first i + 1 is among the first i or is the last of them
-  pub among-split : (i y : ℕ) → AmongFirst mem (i + 1) x y → AmongFirst mem i x y ⊎ (y ≡ assignmentWord mem i - x * 512)
+  pub among-split : (i y : ℕ) → AmongFirst mem (i + 1) x y → AmongFirst mem i x y ⊎ (y ≡ assignmentWord mem i % 512)
   among-split i y e = elim (decLt (e .at) i) [
     | yes b ↦ inl (record { at = e .at; early = b; is = e .is; small = e .small })
     | no b ↦ inr (let s : e .at ≡ i = omega arith in omega (arith, ap (assignmentWord mem) s))

@@ -50,7 +50,7 @@ fn offer_containers(
     let mut i = table::first_of(mem, x);
     let end = table::first_of(mem, x + 1);
     while i < end {
-        t = offer(mem[776 + i] - x * 512, seen, queue, t);
+        t = offer(table::container_at(mem, i), seen, queue, t);
         i += 1;
     }
     t

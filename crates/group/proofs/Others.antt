@@ -53,16 +53,6 @@ module _ {base width counter most base′ width′ counter′ most′ : ℕ} {g 
       getD-take (width′ * n) (drop base′ r) i 0 b ∙ getD-drop base′ r i 0 ∙ other-words (base′ + i) (omega arith) (omega arith)
       ∙ sym (getD-drop base′ l i 0) ∙ sym (getD-take (width′ * n) (drop base′ l) i 0 b)))
 
-  -- the other group fits as before
-  pub other-fits : Fits base′ width′ counter′ most′ (regroup base width counter g l)
-  other-fits = record {
-    some = f′ .some;
-    apart = f′ .apart;
-    room = omega (arith, f′ .room, length-regrouped f w few);
-    few = omega (arith, f′ .few, other-count);
-    short = omega (arith, f′ .short, length-regrouped f w few);
-  }
-
-  -- and has zeros behind its records as before
+  -- the other group has zeros behind its records as before
   pub other-clear : Clear base′ width′ counter′ most′ l → Clear base′ width′ counter′ most′ (regroup base width counter g l)
   other-clear c = record { zero-at = λ i h k. let h′ : base′ + width′ * getD l counter′ 0 ≤ i = rw other-count at h in other-words i (omega arith) k ∙ c .zero-at i h′ k }

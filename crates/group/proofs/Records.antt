@@ -71,11 +71,11 @@ records-front width (suc n) l =
 pub records-alike : (width n : ℕ) (l m : List ℕ) → take (width * n) l ≡ take (width * n) m → records width n l ≡ records width n m
 records-alike width n l m e = sym (records-front width n l) ∙ ap (records width n) e ∙ records-front width n m
 
--- f 0, f 1, and so on, by what each is
-tabulate-alike : {A : Type 0} (n : ℕ) (f g : ℕ → A) → ((i : ℕ) → f i ≡ g i) → tabulate n f ≡ tabulate n g
+-- lists told off from the same are the same
+pub tabulate-alike : {A : Type 0} (n : ℕ) (f g : ℕ → A) → ((i : ℕ) → i < n → f i ≡ g i) → tabulate n f ≡ tabulate n g
 unfolding tabulate
 tabulate-alike zero f g h = refl
-tabulate-alike (suc n) f g h = ap₂ _∷_ (h 0) (tabulate-alike n (λ i. f (suc i)) (λ i. g (suc i)) (λ i. h (suc i)))
+tabulate-alike (suc n) f g h = ap₂ _∷_ (h 0 (omega arith)) (tabulate-alike n (λ i. f (suc i)) (λ i. g (suc i)) (λ i l. h (suc i) (omega arith)))
 
 -- record i starts i widths on
 pub records-at : (width n : ℕ) (l : List ℕ) → records width n l ≡ tabulate n (λ i. take width (drop (width * i) l))
@@ -85,7 +85,7 @@ records-at width (suc n) l =
     ap₂ _∷_ (rw (mul-zero width))
     (records-at width n (drop width l)
     ∙ tabulate-alike n (λ i. take width (drop (width * i) (drop width l))) (λ i. take width (drop (width * suc i) l))
-    (λ i. ap (take width) (drop-drop (width * i) width l ∙ ap (λ (k : ℕ). drop k l) (more-first width i))))
+    (λ i h. ap (take width) (drop-drop (width * i) width l ∙ ap (λ (k : ℕ). drop k l) (more-first width i))))
 
 -- the same, of one record
 pub record-at : (width n : ℕ) (l : List ℕ) (i : ℕ) (d : List ℕ) → i < n → getD (records width n l) i d ≡ take width (drop (width * i) l)

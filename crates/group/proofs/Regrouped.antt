@@ -58,16 +58,6 @@ module _ {base width counter most : ℕ} {g : List (List ℕ)} {l : List ℕ} (f
       ap (λ (n : ℕ). records width n (drop base (regroup base width counter g l))) count-regrouped
       ∙ ap (records width (length g)) drop-regrouped ∙ records-flat width g _ w
 
-  -- the same room, for the next group
-  pub fits-regrouped : Fits base width counter most (regroup base width counter g l)
-  fits-regrouped = record {
-    some = f .some;
-    apart = f .apart;
-    room = omega (arith, f .room, length-regrouped);
-    few = omega (arith, count-regrouped);
-    short = omega (arith, f .short, length-regrouped);
-  }
-
   -- a word that is not the counter is as it was laid
   other-word : (i : ℕ) → (i ≡ counter → ⊥) → getD (regroup base width counter g l) i 0 ≡ getD (laid base (over width counter g l) l) i 0
   unfolding regroup

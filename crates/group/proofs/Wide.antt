@@ -2,31 +2,17 @@
 -- Assumes nothing.
 use mathlib.Core.Path.{_≡_, ap, _∙_}
 use mathlib.Core.Bool.{Bool}
-use mathlib.Core.List.{List, [], _∷_, _++_}
+use mathlib.Core.List.{List, [], _∷_}
 use mathlib.Core.Logic.{⊎-elim}
 use Prim.Native.Nat.{ℕ, zero, suc, _+_, _*_, _≤_}
 use native.Mathlib.Nat.{mul-suc}
 use native.Mathlib.Omega.{arith}
-use lib.ListN.{length, take, drop, length-drop}
+use lib.ListN.{length, drop, length-drop}
 use lib.Seq.{length-take-le}
-use Rattle.model.specs.Lists.{In, first, later, put, lessFirst}
-use Rattle.model.proofs.Truth.{none-in, each-of, less-in, in-append}
+use Rattle.model.specs.Lists.{later, put, lessFirst}
+use Rattle.model.proofs.Truth.{none-in, each-of, less-in}
 use Rattle.model.proofs.Groups.{put-in}
 use Rattle.group.specs.Group.{records, Wide}
-
-module _ {A : Type 0} where
-  -- what stands among the first i stands there
-  pub take-in : {a : A} (i : ℕ) (l : List A) → In a (take i l) → In a l
-  take-in zero l k = absurd (none-in k)
-  take-in (suc i) [] k = absurd (none-in k)
-  take-in (suc i) (b ∷ l) first = first
-  take-in (suc i) (b ∷ l) (later k) = later (take-in i l k)
-
-  -- what stands behind the first i stands there
-  pub drop-in : {a : A} (i : ℕ) (l : List A) → In a (drop i l) → In a l
-  drop-in zero l k = k
-  drop-in (suc i) [] k = absurd (none-in k)
-  drop-in (suc i) (b ∷ l) k = later (drop-in i l k)
 
 -- no record has another width
 pub wide-none : {width : ℕ} → Wide width []
@@ -48,24 +34,11 @@ wide-records width (suc n) l h =
     let e : width * suc n ≡ width * n + width = mul-suc width n in
     wide-more (length-take-le width l (omega arith)) (wide-records width n (drop width l) (simp length-drop (omega arith)))
 
-module _ {width : ℕ} where
-  -- records of the width behind records of the width
-  pub wide-append : {g h : List (List ℕ)} → Wide width g → Wide width h → Wide width (g ++ h)
-  wide-append {g} {h} v w = record { each = λ r i. ⊎-elim (v .each r) (w .each r) (in-append g i) }
+module _ {width : ℕ} {g : List (List ℕ)} (w : Wide width g) where
+  -- all with a record of the width put in its place have the width
+  pub wide-put : (a : List ℕ) (key : List ℕ → List ℕ) → length a ≡ width → Wide width (put key a g)
+  wide-put a key e = record { each = λ r i. ⊎-elim (λ q. ap length q ∙ e) (w .each r) (put-in key a g i) }
 
-  module _ {g : List (List ℕ)} (w : Wide width g) where
-    -- the first i have the width
-    pub wide-take : (i : ℕ) → Wide width (take i g)
-    wide-take i = record { each = λ r k. w .each r (take-in i g k) }
-
-    -- the others have the width
-    pub wide-drop : (i : ℕ) → Wide width (drop i g)
-    wide-drop i = record { each = λ r k. w .each r (drop-in i g k) }
-
-    -- so have all with a record of the width put in its place
-    pub wide-put : (a : List ℕ) (key : List ℕ → List ℕ) → length a ≡ width → Wide width (put key a g)
-    wide-put a key e = record { each = λ r i. ⊎-elim (λ q. ap length q ∙ e) (w .each r) (put-in key a g i) }
-
-    -- so have all less the first that passes
-    pub wide-less : (f : List ℕ → Bool) → Wide width (lessFirst f g)
-    wide-less f = record { each = λ r i. w .each r (less-in f g i) }
+  -- so have all less the first that passes
+  pub wide-less : (f : List ℕ → Bool) → Wide width (lessFirst f g)
+  wide-less f = record { each = λ r i. w .each r (less-in f g i) }

@@ -3,29 +3,15 @@
 use mathlib.Core.Path.{_≡_, refl, sym, ap, _∙_}
 use mathlib.Core.List.{List}
 use Prim.Native.Nat.{ℕ}
-use native.Mathlib.Omega.{arith}
 use Rattle.model.specs.Calls.{Building, build, isIndex}
 use Rattle.table.specs.View.{memory}
 use Rattle.table.specs.declared.Outcome.{Outcome}
-use Rattle.table.specs.declared.Outcome.the-variants.{Done, Refused}
-use Rattle.table.specs.Answers.{told}
+use Rattle.table.proofs.Outcomes.{never, one-outcome}
 use Rattle.index.specs.declared.Matching.{Matching}
 use Rattle.index.specs.declared.Matching.the-variants.{Same, Other, Refused as No}
 use Rattle.index.specs.Answers.{left, matched}
 
--- what cannot be
-never : {A : Type 0} → _≡_ {A = ℕ} 0 1 → A
-never e = absurd (omega arith)
-
--- an outcome is known by what it answers
-one-outcome : {A : Type 0} (r s : Outcome) (a b : A) → told r a ≡ told s b → r ≡ s
-unfolding told
-one-outcome Done Done a b e = refl
-one-outcome Done (Refused n) a b e = never (cc)
-one-outcome (Refused m) Done a b e = never (cc)
-one-outcome (Refused m) (Refused n) a b e = let z : m ≡ n = cc in ap Refused z
-
--- so is a matching
+-- a matching is known by what it answers
 one-matching : (r s : Matching) → matched r ≡ matched s → r ≡ s
 unfolding matched
 one-matching Same Same e = refl

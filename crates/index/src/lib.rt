@@ -112,7 +112,7 @@ fn step(mem: &[u32], idx: &mut [u8], i: usize) -> u32
     requires { ⌜ i < assignmentCount (now mem) ⌝ }
     ensures { λ r. ⌜ Stepped (now (mem .entry)) i (now (idx .entry)) r (now (idx .exit)) ⌝ }
 {
-    let word = mem[776 + i];
+    let word = mem[table::ASSIGNMENTS + i];
     add_row(idx, (word / 512 % 512) as usize, (word % 512) as usize)
 }
 
@@ -134,7 +134,7 @@ fn climb(mem: &[u32], idx: &mut [u8], seen: &mut [u8], x: u32, deep: u32)
     let end = table::first_of(mem, x + 1);
     let mut i = table::first_of(mem, x);
     while i < end {
-        climb(mem, idx, seen, mem[776 + i] % 512, deep - 1);
+        climb(mem, idx, seen, mem[table::ASSIGNMENTS + i] % 512, deep - 1);
         step(mem, idx, i);
         i += 1;
     }
@@ -147,7 +147,7 @@ fn climb_all(mem: &[u32], idx: &mut [u8])
     ensures { λ _. ⌜ Climbed (now (mem .entry)) (now (idx .entry)) (now (idx .exit)) ⌝ }
 {
     let mut seen = [0u8; 512];
-    let mut x = 1;
+    let mut x = 0;
     while x < 512 {
         climb(mem, idx, &mut seen, x, 512);
         x += 1;
@@ -160,7 +160,7 @@ fn pass(mem: &[u32], idx: &mut [u8]) -> u32
     requires { ⌜ Good (now mem) (now idx) ⌝ }
     ensures { λ r. ⌜ Passed (now (mem .entry)) (assignmentCount (now (mem .entry))) (now (idx .entry)) r (now (idx .exit)) ⌝ }
 {
-    let n = mem[1] as usize;
+    let n = mem[table::ASSIGNMENT_COUNTER] as usize;
     let mut grew = 0;
     let mut i = 0;
     while i < n {

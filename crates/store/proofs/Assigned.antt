@@ -3,10 +3,9 @@
 use mathlib.Core.Path.{_≡_, refl, sym, ap, _∙_}
 use mathlib.Core.Bool.{Bool, true, false, not, _&&_, and-true}
 use mathlib.Core.List.{List, [], _∷_, map}
-use mathlib.Core.Logic.{_⊎_, inl, inr, ⊎-elim}
+use mathlib.Core.Logic.{inl, inr, ⊎-elim}
 use Prim.Native.Nat.{ℕ, suc, _+_, _*_, _/_, _%_, _≤_, _<_}
 use native.Mathlib.Omega.{arith}
-use native.Mathlib.Decide.{decLt}
 use borrow.Author.Tests.{lt-ltb, ltb-true}
 use lib.Dec.{eqb, ltb}
 use lib.ListN.{length, take, drop, getD}
@@ -19,13 +18,14 @@ use Rattle.model.proofs.Groups.{put-in, rising-put, rising-less, rising-those, 
 use Rattle.table.specs.Layout.{word, assignmentWord}
 use Rattle.table.specs.View.{assignmentAt, assignmentsOf, policyOf}
 use Rattle.table.specs.Facts.{Table}
-use Rattle.group.specs.Group.{group, regroup, Fits, Wide}
+use Rattle.group.specs.Group.{group, regroup, Fits, Wide, Clear}
 use Rattle.group.proofs.Records.{records-at, record-at}
-use Rattle.group.proofs.Regrouped.{length-regrouped, count-regrouped, group-regrouped}
+use Rattle.group.proofs.Regrouped.{count-regrouped, group-regrouped, zero-beyond}
 use Rattle.group.proofs.Wide.{wide-put, wide-less}
 use Rattle.group.proofs.Kept.{length-group, wide-group, put-few, less-few}
 use Rattle.store.specs.Words.{assignmentRecord, withAssignment, withoutAssignment, withoutAssignmentsOf}
-use Rattle.store.proofs.Frames.{Same, tabulate-alike, elements-same, processes-same, associations-same, prohibitions-same, tidy-same}
+use Rattle.store.proofs.Frames.{Else, head-stays, elements-stay, processes-stay, associations-stay, prohibitions-stay, tidy-stays}
+use Rattle.group.proofs.Records.{tabulate-alike}
 use Rattle.store.proofs.Regroups.{regroup-leaves, in-getD, in-at, rising-before, rising-getD, one-word}
 use Rattle.store.proofs.Mapped.{map-tabulate, map-put, map-less, map-those, fields-packed, same-packed}
 
@@ -88,15 +88,13 @@ module _ {mem : List ℕ} (t : Table mem) {g : List (List ℕ)} (w : Wide 1 g) (
   after : List ℕ
   after = regroup 776 1 1 g mem
 
-  leaves : (from to : ℕ) → (1 < from) ⊎ (to ≤ 1) → (to ≤ 776) ⊎ (2776 ≤ from) → Same mem after from to
+  -- everything else stays
+  leaves : Else mem after 1 776 2776
   unfolding after
-  leaves from to c r = regroup-leaves (assignments-fit t) w few from to c r
+  leaves = regroup-leaves (assignments-fit t) w few
 
-  header : (i : ℕ) → (i ≡ 1 → ⊥) → i < 8 → word after i ≡ word mem i
-  header i d h = elim (decLt i 1) [
-    | yes l ↦ leaves 0 1 (inr (omega arith)) (inl (omega arith)) .at i (omega arith) l
-    | no l ↦ leaves 2 8 (inl (omega arith)) (inl (omega arith)) .at i (omega (arith, d)) h
-  ]
+  header : (i : ℕ) → i < 8 → (i ≡ 1 → ⊥) → word after i ≡ word mem i
+  header = head-stays t leaves (omega arith) (omega arith)
 
   -- the policy with those assignments
   pub assignments-regrouped : policyOf (regroup 776 1 1 g mem) ≡ withAssignments (policyOf mem) (map assignmentIn g)
@@ -104,12 +102,16 @@ module _ {mem : List ℕ} (t : Table mem) {g : List (List ℕ)} (w : Wide 1 g) (
   assignments-regrouped =
       let a : assignmentsOf after ≡ map assignmentIn g = assignments-group after ∙ ap (map assignmentIn) (group-regrouped (assignments-fit t) w few) in
       rw (
-        elements-same (leaves 8 520 (inl (omega arith)) (inl (omega arith))),
-        processes-same (leaves 520 776 (inl (omega arith)) (inl (omega arith))),
-        associations-same (header 2 (λ e. omega arith) (omega arith)) (t .few-associations) (leaves 2776 4776 (inl (omega arith)) (inr (omega arith))),
-        prohibitions-same t (header 3 (λ e. omega arith) (omega arith)) (leaves 5776 7976 (inl (omega arith)) (inr (omega arith))),
+        elements-stay t leaves (omega arith) (omega arith) (omega arith),
+        processes-stay t leaves (omega arith) (omega arith) (inl (omega arith)),
+        associations-stay t leaves (omega arith) (omega arith) (λ e. omega arith) (inr (omega arith)),
+        prohibitions-stay t leaves (omega arith) (omega arith) (λ e. omega arith) (inr (omega arith)),
         a,
       ) refl
+
+  -- where each word behind the last assignment was 0 it is so again
+  pub assignments-clear : Clear 776 1 1 2000 mem → Clear 776 1 1 2000 (regroup 776 1 1 g mem)
+  assignments-clear = zero-beyond (assignments-fit t) w few
 
   -- the count and the words after
   count-after : word after 1 ≡ length g
@@ -125,14 +127,14 @@ module _ {mem : List ℕ} (t : Table mem) {g : List (List ℕ)} (w : Wide 1 g) (
     pub assignments-table : Table (regroup 776 1 1 g mem)
     unfolding after
     assignments-table = record {
-      size = length-regrouped (assignments-fit t) w few ∙ t .size;
-      marked = header 0 (λ e. omega arith) (omega arith) ∙ t .marked;
+      size = leaves .long ∙ t .size;
+      marked = header 0 (omega arith) (λ e. omega arith) ∙ t .marked;
       few-assignments = omega (arith, count-after);
-      few-associations = omega (arith, header 2 (λ e. omega arith) (omega arith), t .few-associations);
-      few-prohibitions = omega (arith, header 3 (λ e. omega arith) (omega arith), t .few-prohibitions);
+      few-associations = omega (arith, header 2 (omega arith) (λ e. omega arith), t .few-associations);
+      few-prohibitions = omega (arith, header 3 (omega arith) (λ e. omega arith), t .few-prohibitions);
       rising = λ i j h l. pairs i j h (omega (arith, count-after));
       small = λ i h. let l : i < length g = omega (arith, count-after) in omega (arith, word-after i l, small (getD g i []) (in-getD g i [] l));
-      tidy = tidy-same t (header 3 (λ e. omega arith) (omega arith)) (leaves 5776 7976 (inl (omega arith)) (inr (omega arith)));
+      tidy = tidy-stays t leaves (omega arith) (omega arith) (λ e. omega arith) (inr (omega arith));
     }
       where
         pairs : (i j : ℕ) → i < j → j < length g → assignmentWord after i < assignmentWord after j
@@ -206,6 +208,11 @@ module _ {mem : List ℕ} (t : Table mem) (x y : ℕ) (lx : x < 512) (ly : y < 5
       (rising-put (λ r. r) (assignmentRecord x y) (group 776 1 1 mem) (group-rises t) (found n))
       (λ r i. ⊎-elim (λ e. rw e (omega arith)) (λ j. group-small t r j) (put-in (λ r. r) (assignmentRecord x y) (group 776 1 1 mem) i))
 
+  -- the words behind stay zero
+  pub assignment-put-clear : word mem 1 < 2000 → Clear 776 1 1 2000 mem → Clear 776 1 1 2000 (withAssignment x y mem)
+  unfolding withAssignment
+  assignment-put-clear few = assignments-clear t (wide-put wide (assignmentRecord x y) (λ r. r) refl) (put-few (λ r. r) (assignmentRecord x y) (assignments-fit t) few)
+
   -- the policy with one assignment less
   pub assignment-less : policyOf (withoutAssignment x y mem) ≡ withAssignments (policyOf mem) (lessFirst (λ a. eqb x (a .child) && eqb y (a .container)) (policyOf mem .assignments))
   unfolding withoutAssignment policyOf
@@ -223,6 +230,11 @@ module _ {mem : List ℕ} (t : Table mem) (x y : ℕ) (lx : x < 512) (ly : y < 5
       assignments-table t (wide-less wide (same (assignmentRecord x y))) (less-few (same (assignmentRecord x y)) (assignments-fit t))
       (rising-less (λ r. r) (same (assignmentRecord x y)) (group 776 1 1 mem) (group-rises t))
       (λ r i. group-small t r (less-in (same (assignmentRecord x y)) (group 776 1 1 mem) i))
+
+  -- the words behind stay zero
+  pub assignment-less-clear : Clear 776 1 1 2000 mem → Clear 776 1 1 2000 (withoutAssignment x y mem)
+  unfolding withoutAssignment
+  assignment-less-clear = assignments-clear t (wide-less wide (same (assignmentRecord x y))) (less-few (same (assignmentRecord x y)) (assignments-fit t))
 
 -- All assignments of an element out.
 module _ {mem : List ℕ} (t : Table mem) (x : ℕ) where
@@ -248,3 +260,8 @@ module _ {mem : List ℕ} (t : Table mem) (x : ℕ) where
   unfolding withoutAssignmentsOf
   assignments-less-table =
       assignments-table t wide-stays few-stay (rising-those (λ r. r) stays (group 776 1 1 mem) (group-rises t)) (λ r i. group-small t r (those-in stays (group 776 1 1 mem) i))
+
+  -- the words behind stay zero
+  pub assignments-less-clear : Clear 776 1 1 2000 mem → Clear 776 1 1 2000 (withoutAssignmentsOf x mem)
+  unfolding withoutAssignmentsOf
+  assignments-less-clear = assignments-clear t wide-stays few-stay

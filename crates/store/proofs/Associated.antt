@@ -2,10 +2,9 @@
 -- Assumes nothing.
 use mathlib.Core.Path.{_≡_, refl, sym, ap, _∙_}
 use mathlib.Core.List.{List, [], _∷_, map}
-use mathlib.Core.Logic.{_⊎_, inl, inr}
+use mathlib.Core.Logic.{inl, inr}
 use Prim.Native.Nat.{ℕ, _+_, _*_, _/_, _%_, _≤_, _<_}
 use native.Mathlib.Omega.{arith}
-use native.Mathlib.Decide.{decLt}
 use lib.Dec.{ltb}
 use lib.ListN.{length, take, drop, getD}
 use lib.Seq.{getD-take, getD-drop}
@@ -14,13 +13,14 @@ use Rattle.model.specs.Policy.{Association, associationFields, hasAssociation, 
 use Rattle.table.specs.Layout.{word, associationStart}
 use Rattle.table.specs.View.{associationAt, associationsOf, policyOf}
 use Rattle.table.specs.Facts.{Table}
-use Rattle.group.specs.Group.{records, group, regroup, firstOf, Fits, Wide}
+use Rattle.group.specs.Group.{records, group, regroup, firstOf, Fits, Wide, Clear}
 use Rattle.group.proofs.Records.{records-at}
-use Rattle.group.proofs.Regrouped.{length-regrouped, count-regrouped, group-regrouped}
+use Rattle.group.proofs.Regrouped.{count-regrouped, group-regrouped, zero-beyond}
 use Rattle.group.proofs.Wide.{wide-put, wide-less}
 use Rattle.group.proofs.Kept.{wide-group, put-few, less-few}
 use Rattle.store.specs.Words.{associationRecord, withAssociation, withoutAssociation}
-use Rattle.store.proofs.Frames.{Same, tabulate-alike, elements-same, processes-same, assignments-same, prohibitions-same, tidy-same, rising-same, small-same}
+use Rattle.store.proofs.Frames.{Else, head-stays, elements-stay, processes-stay, assignments-stay, rising-stays, small-stays, prohibitions-stay, tidy-stays}
+use Rattle.group.proofs.Records.{tabulate-alike}
 use Rattle.store.proofs.Looked.{record-found}
 use Rattle.store.proofs.Regroups.{regroup-leaves}
 use Rattle.store.proofs.Mapped.{map-tabulate, map-put, map-less, fields-packed, same-packed}
@@ -57,15 +57,13 @@ module _ {mem : List ℕ} (t : Table mem) {g : List (List ℕ)} (w : Wide 2 g) (
   after : List ℕ
   after = regroup 2776 2 2 g mem
 
-  leaves : (from to : ℕ) → (2 < from) ⊎ (to ≤ 2) → (to ≤ 2776) ⊎ (4776 ≤ from) → Same mem after from to
+  -- everything else stays
+  leaves : Else mem after 2 2776 4776
   unfolding after
-  leaves from to c r = regroup-leaves (associations-fit t) w few from to c r
+  leaves = regroup-leaves (associations-fit t) w few
 
-  header : (i : ℕ) → (i ≡ 2 → ⊥) → i < 8 → word after i ≡ word mem i
-  header i d h = elim (decLt i 2) [
-    | yes l ↦ leaves 0 2 (inr (omega arith)) (inl (omega arith)) .at i (omega arith) l
-    | no l ↦ leaves 3 8 (inl (omega arith)) (inl (omega arith)) .at i (omega (arith, d)) h
-  ]
+  header : (i : ℕ) → i < 8 → (i ≡ 2 → ⊥) → word after i ≡ word mem i
+  header = head-stays t leaves (omega arith) (omega arith)
 
   -- the policy with those associations
   pub associations-regrouped : policyOf (regroup 2776 2 2 g mem) ≡ withAssociations (policyOf mem) (map associationIn g)
@@ -73,10 +71,10 @@ module _ {mem : List ℕ} (t : Table mem) {g : List (List ℕ)} (w : Wide 2 g) (
   associations-regrouped =
       let a : associationsOf after ≡ map associationIn g = associations-group after ∙ ap (map associationIn) (group-regrouped (associations-fit t) w few) in
       rw (
-        elements-same (leaves 8 520 (inl (omega arith)) (inl (omega arith))),
-        processes-same (leaves 520 776 (inl (omega arith)) (inl (omega arith))),
-        assignments-same (header 1 (λ e. omega arith) (omega arith)) (t .few-assignments) (leaves 776 2776 (inl (omega arith)) (inl (omega arith))),
-        prohibitions-same t (header 3 (λ e. omega arith) (omega arith)) (leaves 5776 7976 (inl (omega arith)) (inr (omega arith))),
+        elements-stay t leaves (omega arith) (omega arith) (omega arith),
+        processes-stay t leaves (omega arith) (omega arith) (inl (omega arith)),
+        assignments-stay t leaves (omega arith) (omega arith) (λ e. omega arith) (inl (omega arith)),
+        prohibitions-stay t leaves (omega arith) (omega arith) (λ e. omega arith) (inr (omega arith)),
         a,
       ) refl
 
@@ -84,15 +82,19 @@ module _ {mem : List ℕ} (t : Table mem) {g : List (List ℕ)} (w : Wide 2 g) (
   pub associations-table : Table (regroup 2776 2 2 g mem)
   unfolding after
   associations-table = record {
-    size = length-regrouped (associations-fit t) w few ∙ t .size;
-    marked = header 0 (λ e. omega arith) (omega arith) ∙ t .marked;
-    few-assignments = omega (arith, header 1 (λ e. omega arith) (omega arith), t .few-assignments);
+    size = leaves .long ∙ t .size;
+    marked = header 0 (omega arith) (λ e. omega arith) ∙ t .marked;
+    few-assignments = omega (arith, header 1 (omega arith) (λ e. omega arith), t .few-assignments);
     few-associations = omega (arith, count-regrouped (associations-fit t) w few);
-    few-prohibitions = omega (arith, header 3 (λ e. omega arith) (omega arith), t .few-prohibitions);
-    rising = rising-same t (header 1 (λ e. omega arith) (omega arith)) (leaves 776 2776 (inl (omega arith)) (inl (omega arith)));
-    small = small-same t (header 1 (λ e. omega arith) (omega arith)) (leaves 776 2776 (inl (omega arith)) (inl (omega arith)));
-    tidy = tidy-same t (header 3 (λ e. omega arith) (omega arith)) (leaves 5776 7976 (inl (omega arith)) (inr (omega arith)));
+    few-prohibitions = omega (arith, header 3 (omega arith) (λ e. omega arith), t .few-prohibitions);
+    rising = rising-stays t leaves (omega arith) (omega arith) (λ e. omega arith) (inl (omega arith));
+    small = small-stays t leaves (omega arith) (omega arith) (λ e. omega arith) (inl (omega arith));
+    tidy = tidy-stays t leaves (omega arith) (omega arith) (λ e. omega arith) (inr (omega arith));
   }
+
+  -- where each word behind the last association was 0 it is so again
+  pub associations-clear : Clear 2776 2 2 1000 mem → Clear 2776 2 2 1000 (regroup 2776 2 2 g mem)
+  associations-clear = zero-beyond (associations-fit t) w few
 
 -- a record of two words
 two-words : (r : List ℕ) → length r ≡ 2 → r ≡ getD r 0 0 ∷ getD r 1 0 ∷ []
@@ -144,6 +146,11 @@ module _ (a : Association) (h : a .target < 512) where
     unfolding withAssociation
     association-put-table few = associations-table t (wide-put wide (associationRecord a) (λ r. r) refl) (put-few (λ r. r) (associationRecord a) (associations-fit t) few)
 
+    -- the words behind stay zero
+    pub association-put-clear : word mem 2 < 1000 → Clear 2776 2 2 1000 mem → Clear 2776 2 2 1000 (withAssociation a mem)
+    unfolding withAssociation
+    association-put-clear few = associations-clear t (wide-put wide (associationRecord a) (λ r. r) refl) (put-few (λ r. r) (associationRecord a) (associations-fit t) few)
+
     -- the policy with one association less
     pub association-less : policyOf (withoutAssociation a mem) ≡ withAssociations (policyOf mem) (lessFirst (λ b. same (associationFields a) (associationFields b)) (policyOf mem .associations))
     unfolding withoutAssociation policyOf
@@ -157,6 +164,11 @@ module _ (a : Association) (h : a .target < 512) where
     pub association-less-table : Table (withoutAssociation a mem)
     unfolding withoutAssociation
     association-less-table = associations-table t (wide-less wide (same (associationRecord a))) (less-few (same (associationRecord a)) (associations-fit t))
+
+    -- the words behind stay zero
+    pub association-less-clear : Clear 2776 2 2 1000 mem → Clear 2776 2 2 1000 (withoutAssociation a mem)
+    unfolding withoutAssociation
+    association-less-clear = associations-clear t (wide-less wide (same (associationRecord a))) (less-few (same (associationRecord a)) (associations-fit t))
 
     -- the association is there exactly if its record is found
     pub association-found : {at : ℕ} → at ≡ firstOf (same (associationRecord a)) (records 2 (word mem 2) (drop 2776 mem)) → ltb at (word mem 2) ≡ hasAssociation (policyOf mem) a

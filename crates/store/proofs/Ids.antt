@@ -3,7 +3,7 @@
 use mathlib.Core.Path.{_≡_, refl, ap, _∙_}
 use mathlib.Core.Bool.{Bool, true, false, _&&_}
 use mathlib.Core.List.{List, [], _∷_}
-use mathlib.Core.Logic.{_⊎_, inl, inr, ⊎-elim}
+use mathlib.Core.Logic.{inr, ⊎-elim}
 use Prim.Native.Nat.{ℕ, suc, _+_, _-_, _≤_, _<_}
 use native.Mathlib.Omega.{arith}
 use native.Mathlib.Decide.{decLt}
@@ -15,11 +15,11 @@ use Rattle.model.specs.Lists.{those, lessFirst, tabulate, put}
 use Rattle.model.specs.Policy.{Element, Process, elementKey, processKey, isKind, isElementId, kindOf, userOf, withElements, withProcesses}
 use Rattle.model.proofs.Truth.{and-right, fails-when}
 use Rattle.table.specs.Layout.{word, kindWord, userWord}
-use Rattle.table.specs.View.{elementsOf, processesOf, assignmentsOf, associationsOf, prohibitionsOf, policyOf}
+use Rattle.table.specs.View.{elementsOf, processesOf, policyOf}
 use Rattle.table.specs.Facts.{Table}
 use Rattle.table.proofs.ById.{kind-is, user-is}
 use Rattle.store.specs.Words.{withKind, withUser}
-use Rattle.store.proofs.Frames.{Same, elements-same, processes-same, assignments-same, associations-same, prohibitions-same, tidy-same, rising-same, small-same}
+use Rattle.store.proofs.Frames.{Else, head-stays, elements-stay, processes-stay, assignments-stay, rising-stays, small-stays, associations-stay, prohibitions-stay, tidy-stays}
 use Rattle.store.proofs.Slots.{slot-put, slot-less}
 
 -- a word that reads 0 is not 1 to top
@@ -39,36 +39,39 @@ not-user : (mem : List ℕ) (i : ℕ) → 1 ≤ i → i ≤ 255 → userOf (poli
 unfolding isElementId
 not-user mem i l h z = reads-none (userWord mem i) (userOf (policyOf mem) i) 511 (user-is mem i l h) z
 
--- one word set leaves the words elsewhere
-set-same : (mem : List ℕ) (at v from to : ℕ) → (at < from) ⊎ (to ≤ at) → Same mem (set mem at v) from to
-set-same mem at v from to h = record { at = λ i a b. getD-set-other mem at i v 0 (λ e. ⊎-elim (λ l. omega arith) (λ l. omega arith) h) }
-
--- A word below the groups is set: all groups but the one that it is of stay, and the memory is a table.
+-- A word below the groups is set: everything else stays (word 4 is free), and the memory is a table.
 module _ {mem : List ℕ} (t : Table mem) (at v : ℕ) (low : 8 ≤ at) (high : at < 776) where
-  -- the counts stay
-  header : (i : ℕ) → i < 8 → word (set mem at v) i ≡ word mem i
-  header i h = getD-set-other mem at i v 0 (λ e. omega arith)
-
-  pub slot-table : Table (set mem at v)
-  slot-table = record {
-    size = length-set mem at v ∙ t .size;
-    marked = header 0 (omega arith) ∙ t .marked;
-    few-assignments = omega (arith, header 1 (omega arith), t .few-assignments);
-    few-associations = omega (arith, header 2 (omega arith), t .few-associations);
-    few-prohibitions = omega (arith, header 3 (omega arith), t .few-prohibitions);
-    rising = rising-same t (header 1 (omega arith)) (set-same mem at v 776 2776 (inl (omega arith)));
-    small = small-same t (header 1 (omega arith)) (set-same mem at v 776 2776 (inl (omega arith)));
-    tidy = tidy-same t (header 3 (omega arith)) (set-same mem at v 5776 7976 (inl (omega arith)));
+  leaves : Else mem (set mem at v) 4 at (at + 1)
+  leaves = record {
+    long = length-set mem at v;
+    at = λ i d h. getD-set-other mem at i v 0 (λ e. ⊎-elim (λ l. omega arith) (λ l. omega arith) h);
   }
 
-  slot-assignments : assignmentsOf (set mem at v) ≡ assignmentsOf mem
-  slot-assignments = assignments-same (header 1 (omega arith)) (t .few-assignments) (set-same mem at v 776 2776 (inl (omega arith)))
+  -- the counts stay
+  header : (i : ℕ) → i < 8 → (i ≡ 4 → ⊥) → word (set mem at v) i ≡ word mem i
+  header = head-stays t leaves (omega arith) low
 
-  slot-associations : associationsOf (set mem at v) ≡ associationsOf mem
-  slot-associations = associations-same (header 2 (omega arith)) (t .few-associations) (set-same mem at v 2776 4776 (inl (omega arith)))
+  slot-table : Table (set mem at v)
+  slot-table = record {
+    size = leaves .long ∙ t .size;
+    marked = header 0 (omega arith) (λ e. omega arith) ∙ t .marked;
+    few-assignments = omega (arith, header 1 (omega arith) (λ e. omega arith), t .few-assignments);
+    few-associations = omega (arith, header 2 (omega arith) (λ e. omega arith), t .few-associations);
+    few-prohibitions = omega (arith, header 3 (omega arith) (λ e. omega arith), t .few-prohibitions);
+    rising = rising-stays t leaves (omega arith) low (λ e. omega arith) (inr (omega arith));
+    small = small-stays t leaves (omega arith) low (λ e. omega arith) (inr (omega arith));
+    tidy = tidy-stays t leaves (omega arith) low (λ e. omega arith) (inr (omega arith));
+  }
 
-  slot-prohibitions : prohibitionsOf (set mem at v) ≡ prohibitionsOf mem
-  slot-prohibitions = prohibitions-same t (header 3 (omega arith)) (set-same mem at v 5776 7976 (inl (omega arith)))
+  -- the groups stay
+  slot-rest : policyOf (set mem at v) ≡ withProcesses (withElements (policyOf mem) (elementsOf (set mem at v))) (processesOf (set mem at v))
+  unfolding policyOf
+  slot-rest =
+      rw (
+        assignments-stay t leaves (omega arith) low (λ e. omega arith) (inr (omega arith)),
+        associations-stay t leaves (omega arith) low (λ e. omega arith) (inr (omega arith)),
+        prohibitions-stay t leaves (omega arith) low (λ e. omega arith) (inr (omega arith)),
+      ) refl
 
 -- Records by id from a place in the words on: one word set, one record in its place or out.
 module _ {A : Type 0} (id : A → ℕ) (make : (i value : ℕ) → A) (numbered : (i v : ℕ) → id (make i v) ≡ i) (good : A → Bool) (base n : ℕ) where
@@ -111,12 +114,8 @@ module _ {mem : List ℕ} (t : Table mem) (x k : ℕ) (low : 1 ≤ x) (high : x 
   kind-rest : policyOf (set mem (8 + x) k) ≡ withElements (policyOf mem) (elementsOf (set mem (8 + x) k))
   unfolding policyOf
   kind-rest =
-      rw (
-        slot-assignments t (8 + x) k (omega arith) (omega arith),
-        slot-associations t (8 + x) k (omega arith) (omega arith),
-        slot-prohibitions t (8 + x) k (omega arith) (omega arith),
-        processes-same (set-same mem (8 + x) k 520 776 (inl (omega arith))),
-      ) refl
+      slot-rest t (8 + x) k (omega arith) (omega arith)
+      ∙ rw (processes-stay t (leaves t (8 + x) k (omega arith) (omega arith)) (omega arith) (omega arith) (inr (omega arith))) refl
 
   -- an element by id and kind
   abbrev element : ℕ → ℕ → Element
@@ -144,12 +143,8 @@ module _ {mem : List ℕ} (t : Table mem) (p u : ℕ) (low : 1 ≤ p) (high : p 
   user-rest : policyOf (set mem (520 + p) u) ≡ withProcesses (policyOf mem) (processesOf (set mem (520 + p) u))
   unfolding policyOf
   user-rest =
-      rw (
-        elements-same (set-same mem (520 + p) u 8 520 (inr (omega arith))),
-        slot-assignments t (520 + p) u (omega arith) (omega arith),
-        slot-associations t (520 + p) u (omega arith) (omega arith),
-        slot-prohibitions t (520 + p) u (omega arith) (omega arith),
-      ) refl
+      slot-rest t (520 + p) u (omega arith) (omega arith)
+      ∙ rw (elements-stay t (leaves t (520 + p) u (omega arith) (omega arith)) (omega arith) (omega arith) (omega arith)) refl
 
   -- a process by id and user
   abbrev process : ℕ → ℕ → Process

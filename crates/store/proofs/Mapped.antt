@@ -8,9 +8,10 @@ use Prim.Native.Nat.{ℕ, zero, suc, _+_, _*_, _≤_, _<_}
 use native.Mathlib.Nat.{mul-le-mul-right, suc-mul}
 use native.Mathlib.Omega.{arith}
 use native.Mathlib.Decide.{decLt, ℕ-discrete}
-use borrow.Author.Tests.{eq-eqb, ne-eqb, eqb-true, lt-ltb, le-ltb}
+use borrow.Author.Tests.{eq-eqb, ne-eqb, eqb-true, le-ltb}
 use lib.Dec.{eqb}
 use Rattle.model.specs.Lists.{In, first, later, those, lessFirst, tabulate, before, same, put}
+use Rattle.model.proofs.Order.{first-lower}
 use Rattle.model.proofs.Truth.{and-left, and-right, fails-when}
 
 module _ {A B : Type 0} (f : A → B) where
@@ -53,10 +54,6 @@ module _ {A B : Type 0} (f : A → B) where
       go false q r = rw (← h b first, q) r
 
 -- One field decides, or the rest does.
-field-below : (x y : ℕ) (xs ys : List ℕ) → x < y → before (x ∷ xs) (y ∷ ys) ≡ true
-unfolding before
-field-below x y xs ys h = rw (lt-ltb x y h) refl
-
 field-same : (x y : ℕ) (xs ys : List ℕ) → x ≡ y → before (x ∷ xs) (y ∷ ys) ≡ before xs ys
 unfolding before
 field-same x y xs ys e = rw (le-ltb x y (omega arith), eq-eqb x y e) refl
@@ -68,7 +65,7 @@ field-above x y xs ys h = rw (le-ltb x y (omega arith), ne-eqb x y (λ e. omega 
 -- the rest matters only where the first fields are the same
 pub field-alike : (x y : ℕ) (xs ys us vs : List ℕ) → (x ≡ y → before xs ys ≡ before us vs) → before (x ∷ xs) (y ∷ ys) ≡ before (x ∷ us) (y ∷ vs)
 field-alike x y xs ys us vs h = elim (decLt x y) [
-  | yes l ↦ field-below x y xs ys l ∙ sym (field-below x y us vs l)
+  | yes l ↦ first-lower x y xs ys l ∙ sym (first-lower x y us vs l)
   | no n ↦ elim (ℕ-discrete x y) [
     | yes e ↦ field-same x y xs ys e ∙ h e ∙ sym (field-same x y us vs e)
     | no d ↦ let l : y < x = omega (arith, d) in field-above x y xs ys l ∙ sym (field-above x y us vs l)
@@ -82,7 +79,7 @@ packed-below m a b x y h k = let r : suc a * m ≤ x * m = mul-le-mul-right m k 
 -- two fields as one number, in the same order
 pub fields-packed : (m a b x y : ℕ) (us vs : List ℕ) → b < m → y < m → before (a ∷ b ∷ us) (x ∷ y ∷ vs) ≡ before ((a * m + b) ∷ us) ((x * m + y) ∷ vs)
 fields-packed m a b x y us vs h l = elim (decLt a x) [
-  | yes k ↦ field-below a x (b ∷ us) (y ∷ vs) k ∙ sym (field-below (a * m + b) (x * m + y) us vs (packed-below m a b x y h k))
+  | yes k ↦ first-lower a x (b ∷ us) (y ∷ vs) k ∙ sym (first-lower (a * m + b) (x * m + y) us vs (packed-below m a b x y h k))
   | no k ↦ elim (ℕ-discrete a x) [
     | yes e ↦ field-same a x (b ∷ us) (y ∷ vs) e ∙ lower e
     | no d ↦ let q : x < a = omega (arith, d) in field-above a x (b ∷ us) (y ∷ vs) q ∙ sym (field-above (a * m + b) (x * m + y) us vs (packed-below m x y a b l q))
@@ -91,7 +88,7 @@ fields-packed m a b x y us vs h l = elim (decLt a x) [
   where
     lower : a ≡ x → before (b ∷ us) (y ∷ vs) ≡ before ((a * m + b) ∷ us) ((x * m + y) ∷ vs)
     lower e = elim (decLt b y) [
-      | yes k ↦ field-below b y us vs k ∙ sym (field-below (a * m + b) (x * m + y) us vs (rw e (omega arith)))
+      | yes k ↦ first-lower b y us vs k ∙ sym (first-lower (a * m + b) (x * m + y) us vs (rw e (omega arith)))
       | no k ↦ elim (ℕ-discrete b y) [
         | yes q ↦ field-same b y us vs q ∙ sym (field-same (a * m + b) (x * m + y) us vs (rw (e, q) refl))
         | no d ↦ let q : y < b = omega (arith, d) in field-above b y us vs q ∙ sym (field-above (a * m + b) (x * m + y) us vs (rw e (omega arith)))

@@ -2,7 +2,7 @@
 -- Assumes nothing.
 use mathlib.Core.Path.{_≡_, refl, sym, ap, _∙_}
 use mathlib.Core.List.{List, [], map}
-use mathlib.Core.Logic.{_⊎_, inl, inr, ⊎-elim}
+use mathlib.Core.Logic.{inl, ⊎-elim}
 use Prim.Native.Nat.{ℕ, _+_, _*_, _/_, _%_, _≤_, _<_}
 use native.Mathlib.Omega.{arith}
 use lib.ListN.{length, take, drop, getD}
@@ -18,10 +18,11 @@ use Rattle.table.proofs.Tabled.{tabulate-in}
 use Rattle.group.specs.Group.{group, regroup, Fits, Wide, Clear}
 use Rattle.group.proofs.Wide.{wide-put, wide-less}
 use Rattle.group.proofs.Records.{records-at, record-at}
-use Rattle.group.proofs.Regrouped.{length-regrouped, count-regrouped, group-regrouped, zero-beyond}
+use Rattle.group.proofs.Regrouped.{count-regrouped, group-regrouped, zero-beyond}
 use Rattle.group.proofs.Kept.{wide-group, put-few, less-few}
 use Rattle.store.specs.ProhibitionWords.{Storable, prohibitionRecord, withProhibition, withoutProhibition}
-use Rattle.store.proofs.Frames.{Same, tabulate-alike, elements-same, processes-same, assignments-same, associations-same, rising-same, small-same}
+use Rattle.store.proofs.Frames.{Else, head-stays, elements-stay, processes-stay, assignments-stay, rising-stays, small-stays, associations-stay}
+use Rattle.group.proofs.Records.{tabulate-alike}
 use Rattle.store.proofs.Regroups.{regroup-leaves, in-getD}
 use Rattle.store.proofs.Mapped.{map-tabulate, map-put, map-less}
 use Rattle.store.proofs.Recorded.{prohibitionFrom, prohibitionIn, storable-narrow, length-record, record-is, record-tidy, record-order, record-same}
@@ -107,14 +108,14 @@ module _ {mem : List ℕ} (t : Table mem) {g : List (List ℕ)} (w : Wide 11 g) 
   after : List ℕ
   after = regroup 5776 11 3 g mem
 
-  -- words outside the room for prohibitions are as they were
-  leaves : (from to : ℕ) → (3 < from) ⊎ (to ≤ 3) → (to ≤ 5776) ⊎ (7976 ≤ from) → Same mem after from to
+  -- everything else stays
+  leaves : Else mem after 3 5776 7976
   unfolding after
-  leaves from to c r = regroup-leaves (prohibitions-fit t) w few from to c r
+  leaves = regroup-leaves (prohibitions-fit t) w few
 
-  -- so are the mark and the other counts
-  header : (i : ℕ) → i < 3 → word after i ≡ word mem i
-  header i h = leaves 0 3 (inr (omega arith)) (inl (omega arith)) .at i (omega arith) h
+  -- so do the mark and the other counts
+  header : (i : ℕ) → i < 8 → (i ≡ 3 → ⊥) → word after i ≡ word mem i
+  header = head-stays t leaves (omega arith) (omega arith)
 
   -- the group after
   group-after : group 5776 11 3 after ≡ g
@@ -139,13 +140,13 @@ module _ {mem : List ℕ} (t : Table mem) {g : List (List ℕ)} (w : Wide 11 g) 
   pub prohibitions-table : Table (regroup 5776 11 3 g mem)
   unfolding after
   prohibitions-table = record {
-    size = length-regrouped (prohibitions-fit t) w few ∙ t .size;
-    marked = header 0 (omega arith) ∙ t .marked;
-    few-assignments = omega (arith, header 1 (omega arith), t .few-assignments);
-    few-associations = omega (arith, header 2 (omega arith), t .few-associations);
+    size = leaves .long ∙ t .size;
+    marked = header 0 (omega arith) (λ e. omega arith) ∙ t .marked;
+    few-assignments = omega (arith, header 1 (omega arith) (λ e. omega arith), t .few-assignments);
+    few-associations = omega (arith, header 2 (omega arith) (λ e. omega arith), t .few-associations);
     few-prohibitions = omega (arith, count-after);
-    rising = rising-same t (header 1 (omega arith)) (leaves 776 2776 (inl (omega arith)) (inl (omega arith)));
-    small = small-same t (header 1 (omega arith)) (leaves 776 2776 (inl (omega arith)) (inl (omega arith)));
+    rising = rising-stays t leaves (omega arith) (omega arith) (λ e. omega arith) (inl (omega arith));
+    small = small-stays t leaves (omega arith) (omega arith) (λ e. omega arith) (inl (omega arith));
     tidy = λ i h. tidy-after i (omega (arith, count-after));
   }
 
@@ -155,10 +156,10 @@ module _ {mem : List ℕ} (t : Table mem) {g : List (List ℕ)} (w : Wide 11 g) 
   prohibitions-regrouped =
       let b : prohibitionsOf after ≡ map prohibitionIn g = prohibitions-group prohibitions-table ∙ ap (map prohibitionIn) group-after in
       rw (
-        elements-same (leaves 8 520 (inl (omega arith)) (inl (omega arith))),
-        processes-same (leaves 520 776 (inl (omega arith)) (inl (omega arith))),
-        assignments-same (header 1 (omega arith)) (t .few-assignments) (leaves 776 2776 (inl (omega arith)) (inl (omega arith))),
-        associations-same (header 2 (omega arith)) (t .few-associations) (leaves 2776 4776 (inl (omega arith)) (inl (omega arith))),
+        elements-stay t leaves (omega arith) (omega arith) (omega arith),
+        processes-stay t leaves (omega arith) (omega arith) (inl (omega arith)),
+        assignments-stay t leaves (omega arith) (omega arith) (λ e. omega arith) (inl (omega arith)),
+        associations-stay t leaves (omega arith) (omega arith) (λ e. omega arith) (inl (omega arith)),
         b,
       ) refl
 

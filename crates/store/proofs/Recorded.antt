@@ -19,7 +19,7 @@ use Rattle.table.specs.Layout.{word}
 use Rattle.table.specs.View.{inclusionCount, exclusionCount}
 use Rattle.table.specs.Facts.{Tidy}
 use Rattle.store.specs.ProhibitionWords.{Storable, prohibitionRecord}
-use Rattle.store.proofs.Frames.{tabulate-alike}
+use Rattle.group.proofs.Records.{tabulate-alike}
 use Rattle.store.proofs.Mapped.{field-alike, fields-packed, same-packed}
 
 -- the prohibition whose words start there

@@ -3,7 +3,6 @@
 use mathlib.Core.Path.{_≡_, refl}
 use mathlib.Core.Bool.{true}
 use mathlib.Core.List.{List, [], _∷_}
-use mathlib.Core.Logic.{_⊎_, ⊎-elim, inl, inr}
 use Prim.Native.Nat.{ℕ, zero, suc, _+_, _*_, _≤_, _<_}
 use native.Mathlib.Nat.{le-of-suc-le-suc, not-suc-le-zero}
 use native.Mathlib.Omega.{arith}
@@ -12,15 +11,13 @@ use Rattle.model.specs.Lists.{In, first, later, before, precedes, rising}
 use Rattle.model.proofs.Truth.{and-join}
 use Rattle.model.proofs.Groups.{rising-first, rising-rest}
 use Rattle.group.specs.Group.{regroup, Fits, Wide}
-use Rattle.group.proofs.Regrouped.{elsewhere}
-use Rattle.store.proofs.Frames.{Same}
+use Rattle.group.proofs.Regrouped.{length-regrouped, elsewhere}
+use Rattle.store.proofs.Frames.{Else}
 
--- words outside the group's room, its counter not among them, are the same
+-- a group put anew leaves everything else
 pub regroup-leaves : {base width counter most : ℕ} {g : List (List ℕ)} {mem : List ℕ} → Fits base width counter most mem → Wide width g → length g ≤ most
-    → (from to : ℕ) → (counter < from) ⊎ (to ≤ counter) → (to ≤ base) ⊎ (base + width * most ≤ from) → Same mem (regroup base width counter g mem) from to
-regroup-leaves {base} {width} {counter} {most} f w few from to c r = record {
-  at = λ i a b. elsewhere f w few i (λ e. ⊎-elim (λ l. omega arith) (λ l. omega arith) c) (⊎-elim (λ l. inl (omega arith)) (λ l. inr (omega arith)) r);
-}
+    → Else mem (regroup base width counter g mem) counter base (base + width * most)
+regroup-leaves f w few = record { long = length-regrouped f w few; at = elsewhere f w few }
 
 -- each place of a list holds a member
 pub in-getD : {A : Type 0} (l : List A) (i : ℕ) (d : A) → i < length l → In (getD l i d) l

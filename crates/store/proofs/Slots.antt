@@ -12,7 +12,7 @@ use Rattle.model.specs.Lists.{In, first, later, those, lessFirst, tabulate, put
 use Rattle.model.proofs.Truth.{those-in}
 use Rattle.model.proofs.Order.{before-one}
 use Rattle.table.proofs.Tabled.{tabulate-in}
-use Rattle.store.proofs.Frames.{tabulate-alike}
+use Rattle.group.proofs.Records.{tabulate-alike}
 
 module _ {A : Type 0} (id : A → ℕ) (good : A → Bool) where
   -- the order is by id alone
@@ -40,11 +40,11 @@ module _ {A : Type 0} (id : A → ℕ) (good : A → Bool) where
   those-bad a l e = rw e refl
 
   -- nothing with the id is there
-  less-none : (x : ℕ) (l : List A) → ((b : A) → In b l → x < id b) → lessFirst (λ b. eqb x (id b)) l ≡ l
+  less-absent : (x : ℕ) (l : List A) → ((b : A) → In b l → x < id b) → lessFirst (λ b. eqb x (id b)) l ≡ l
   unfolding lessFirst
-  less-none x [] h = refl
-  less-none x (b ∷ l) h =
-      rw (ne-eqb x (id b) (λ e. omega (arith, h b first))) (ap (λ m. b ∷ m) (less-none x l (λ c i. h c (later i))))
+  less-absent x [] h = refl
+  less-absent x (b ∷ l) h =
+      rw (ne-eqb x (id b) (λ e. omega (arith, h b first))) (ap (λ m. b ∷ m) (less-absent x l (λ c i. h c (later i))))
 
   -- ids from s on, each one above the last
   abbrev Numbered : ℕ → (ℕ → A) → Type 0
@@ -120,7 +120,7 @@ module _ {A : Type 0} (id : A → ℕ) (good : A → Bool) where
           ∙ ap (lessFirst (λ b. eqb x (id b))) (sym (those-good (make 0) rest q))
       go false q =
           those-bad (make′ 0) rest′ b ∙ ap (those good) same-rest
-          ∙ sym (less-none x (those good rest) (λ c m. omega (arith, tail-above s n make u c m))) ∙ ap (lessFirst (λ b. eqb x (id b))) (sym (those-bad (make 0) rest q))
+          ∙ sym (less-absent x (those good rest) (λ c m. omega (arith, tail-above s n make u c m))) ∙ ap (lessFirst (λ b. eqb x (id b))) (sym (those-bad (make 0) rest q))
   slot-less (suc n) (suc i) s x make make′ u h o e b =
       go (good (make 0)) refl (slot-less n i (suc s) x (λ j. make (suc j)) (λ j. make′ (suc j)) (λ j. omega (arith, u (suc j))) (omega arith) (λ j d. o (suc j) (λ q. d (omega arith))) (omega arith) b)
     where

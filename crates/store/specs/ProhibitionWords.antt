@@ -6,7 +6,7 @@ use lib.Dec.{leb}
 use lib.ListN.{length, replicate}
 use Rattle.model.specs.Policy.{Prohibition}
 use Rattle.model.specs.Sound.{mostProhibitions, listed}
-use Rattle.table.specs.Layout.{prohibitionCount}
+use Rattle.table.specs.Layout.{prohibitionsFrom, prohibitionCounter, prohibitionCount}
 use Rattle.table.specs.Answers.{Left}
 use Rattle.group.specs.Group.{withRecord, withoutRecord}
 use Rattle.store.specs.Words.{added}
@@ -34,11 +34,11 @@ prohibitionRecord b =
 
 -- the words with one prohibition more
 unfoldable pub withProhibition : Prohibition → List ℕ → List ℕ
-withProhibition b mem = withRecord 5776 3 (prohibitionRecord b) mem
+withProhibition b mem = withRecord prohibitionsFrom prohibitionCounter (prohibitionRecord b) mem
 
 -- the words with one prohibition less
 unfoldable pub withoutProhibition : Prohibition → List ℕ → List ℕ
-withoutProhibition b mem = withoutRecord 5776 3 (prohibitionRecord b) mem
+withoutProhibition b mem = withoutRecord prohibitionsFrom prohibitionCounter (prohibitionRecord b) mem
 
 -- one prohibition more: never a 201st
 abbrev pub addedProhibition : Prohibition → List ℕ → Left

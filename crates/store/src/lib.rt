@@ -1,7 +1,20 @@
 // The working memory with one record more or less.
+use table::ASSIGNMENT_COUNTER;
+use table::ASSIGNMENTS;
+use table::ASSOCIATION_COUNTER;
+use table::ASSOCIATIONS;
+use table::KINDS;
+use table::MOST_ASSIGNMENTS;
+use table::MOST_ASSOCIATIONS;
+use table::MOST_PROHIBITIONS;
+use table::Outcome;
+use table::PROHIBITION_COUNTER;
+use table::PROHIBITIONS;
+use table::USERS;
 ghost use mathlib.Core.Path.{_≡_};
-ghost use Prim.Native.Nat.{_<_};
-ghost use Rattle.model.specs.Policy.{hasAssociation, hasProhibition};
+ghost use mathlib.Core.Bool.{false};
+ghost use Prim.Native.Nat.{_≤_, _<_};
+ghost use Rattle.model.specs.Policy.{isAssigned, hasAssociation, hasProhibition};
 ghost use Rattle.table.specs.View.{policyOf};
 ghost use Rattle.table.specs.Facts.{Table};
 ghost use Rattle.table.specs.Answers.{left};
@@ -12,32 +25,40 @@ ghost use Rattle.store.specs.Words.{withKind, withUser, addedAssignment,
 pub fn set_kind(mem: &mut [u32], x: u32, kind: u32)
     requires { ⌜ Table (now mem) ⌝ }
     requires { ⌜ x < 512 ⌝ }
+    requires { ⌜ kind ≤ 5 ⌝ }
     ensures { λ _. ⌜ now (mem .exit) ≡ withKind x kind (now (mem .entry)) ⌝ }
 {
-    mem[8 + x as usize] = kind;
+    mem[KINDS + x as usize] = kind;
 }
 
 // Sets the user of process i; 0 takes the process out.
 pub fn set_user(mem: &mut [u32], i: u32, user: u32)
     requires { ⌜ Table (now mem) ⌝ }
     requires { ⌜ i < 256 ⌝ }
+    requires { ⌜ user < 512 ⌝ }
     ensures { λ _. ⌜ now (mem .exit) ≡ withUser i user (now (mem .entry)) ⌝ }
 {
-    mem[520 + i as usize] = user;
+    mem[USERS + i as usize] = user;
 }
 
-// Puts an assignment in its place, unless there are 2,000.
-pub fn add_assignment(mem: &mut [u32], child: u32, container: u32) -> table::Outcome
+// Puts an assignment that is not there in its place, unless there are 2,000.
+pub fn add_assignment(mem: &mut [u32], child: u32, container: u32) -> Outcome
     requires { ⌜ Table (now mem) ⌝ }
     requires { ⌜ child < 512 ⌝ }
     requires { ⌜ container < 512 ⌝ }
+    requires { ⌜ isAssigned (policyOf (now mem)) child container ≡ false ⌝ }
     ensures { λ r. ⌜ left r (now (mem .exit)) ≡ addedAssignment child container (now (mem .entry)) ⌝ }
 {
-    if 2000 <= mem[1] {
-        return table::Outcome::Refused(10);
+    if MOST_ASSIGNMENTS <= mem[ASSIGNMENT_COUNTER] {
+        return Outcome::Refused(10);
     }
-    group::add(mem, 776, 1, &[child * 512 + container]);
-    table::Outcome::Done
+    group::add(
+        mem,
+        ASSIGNMENTS,
+        ASSIGNMENT_COUNTER,
+        &[child * 512 + container],
+    );
+    Outcome::Done
 }
 
 // Takes an assignment out, where it is there.
@@ -47,7 +68,12 @@ pub fn take_assignment(mem: &mut [u32], child: u32, container: u32)
     requires { ⌜ container < 512 ⌝ }
     ensures { λ _. ⌜ now (mem .exit) ≡ withoutAssignment child container (now (mem .entry)) ⌝ }
 {
-    group::take_out(mem, 776, 1, &[child * 512 + container]);
+    group::take_out(
+        mem,
+        ASSIGNMENTS,
+        ASSIGNMENT_COUNTER,
+        &[child * 512 + container],
+    );
 }
 
 // Takes all assignments of x out.
@@ -58,21 +84,26 @@ pub fn take_assignments_of(mem: &mut [u32], x: u32)
 {
     let from = table::first_of(mem, x);
     let to = table::first_of(mem, x + 1);
-    group::remove(mem, 776, 1, 1, from, to - from);
+    group::remove(mem, ASSIGNMENTS, 1, ASSIGNMENT_COUNTER, from, to - from);
 }
 
 // Puts an association in its place, unless there are 1,000.
-pub fn add_association(mem: &mut [u32], attribute: u32, target: u32, rights: u32) -> table::Outcome
+pub fn add_association(mem: &mut [u32], attribute: u32, target: u32, rights: u32) -> Outcome
     requires { ⌜ Table (now mem) ⌝ }
     requires { ⌜ attribute < 512 ⌝ }
     requires { ⌜ target < 512 ⌝ }
     ensures { λ r. ⌜ left r (now (mem .exit)) ≡ addedAssociation (record { attribute = attribute; target = target; rights = rights }) (now (mem .entry)) ⌝ }
 {
-    if 1000 <= mem[2] {
-        return table::Outcome::Refused(10);
+    if MOST_ASSOCIATIONS <= mem[ASSOCIATION_COUNTER] {
+        return Outcome::Refused(10);
     }
-    group::add(mem, 2776, 2, &[attribute * 512 + target, rights]);
-    table::Outcome::Done
+    group::add(
+        mem,
+        ASSOCIATIONS,
+        ASSOCIATION_COUNTER,
+        &[attribute * 512 + target, rights],
+    );
+    Outcome::Done
 }
 
 // Takes an association out, where it is there.
@@ -82,7 +113,12 @@ pub fn take_association(mem: &mut [u32], attribute: u32, target: u32, rights: u3
     requires { ⌜ target < 512 ⌝ }
     ensures { λ _. ⌜ now (mem .exit) ≡ withoutAssociation (record { attribute = attribute; target = target; rights = rights }) (now (mem .entry)) ⌝ }
 {
-    group::take_out(mem, 2776, 2, &[attribute * 512 + target, rights]);
+    group::take_out(
+        mem,
+        ASSOCIATIONS,
+        ASSOCIATION_COUNTER,
+        &[attribute * 512 + target, rights],
+    );
 }
 
 // Whether the association is there, by its exact triple.
@@ -92,8 +128,8 @@ pub fn has_association(mem: &[u32], attribute: u32, target: u32, rights: u32) ->
     requires { ⌜ target < 512 ⌝ }
     ensures { λ r. ⌜ r ≡ hasAssociation (policyOf (now (mem .entry))) (record { attribute = attribute; target = target; rights = rights }) ⌝ }
 {
-    let n = mem[2] as usize;
-    group::find(mem, 2776, n, &[attribute * 512 + target, rights]) < n
+    let n = mem[ASSOCIATION_COUNTER] as usize;
+    group::find(mem, ASSOCIATIONS, n, &[attribute * 512 + target, rights]) < n
 }
 
 // The record of a prohibition.
@@ -134,8 +170,8 @@ pub fn has_prohibition(
     ensures { λ r. ⌜ r ≡ hasProhibition (policyOf (now (mem .entry))) (prohibition sort subject form rights (now (inclusion .entry)) (now (exclusion .entry))) ⌝ }
 {
     let rec = prohibition_record(sort, subject, form, rights, inclusion, exclusion);
-    let n = mem[3] as usize;
-    group::find(mem, 5776, n, &rec) < n
+    let n = mem[PROHIBITION_COUNTER] as usize;
+    group::find(mem, PROHIBITIONS, n, &rec) < n
 }
 
 // Puts the prohibition in its place, unless there are 200.
@@ -147,17 +183,17 @@ pub fn add_prohibition(
     rights: u32,
     inclusion: &[u32],
     exclusion: &[u32],
-) -> table::Outcome
+) -> Outcome
     requires { ⌜ Table (now mem) ⌝ }
     requires { ⌜ Storable (prohibition sort subject form rights (now inclusion) (now exclusion)) ⌝ }
     ensures { λ r. ⌜ left r (now (mem .exit)) ≡ addedProhibition (prohibition sort subject form rights (now (inclusion .entry)) (now (exclusion .entry))) (now (mem .entry)) ⌝ }
 {
-    if 200 <= mem[3] {
-        return table::Outcome::Refused(10);
+    if MOST_PROHIBITIONS <= mem[PROHIBITION_COUNTER] {
+        return Outcome::Refused(10);
     }
     let rec = prohibition_record(sort, subject, form, rights, inclusion, exclusion);
-    group::add(mem, 5776, 3, &rec);
-    table::Outcome::Done
+    group::add(mem, PROHIBITIONS, PROHIBITION_COUNTER, &rec);
+    Outcome::Done
 }
 
 // Takes out the first prohibition with just those fields, where one is.
@@ -175,5 +211,5 @@ pub fn take_prohibition(
     ensures { λ _. ⌜ now (mem .exit) ≡ withoutProhibition (prohibition sort subject form rights (now (inclusion .entry)) (now (exclusion .entry))) (now (mem .entry)) ⌝ }
 {
     let rec = prohibition_record(sort, subject, form, rights, inclusion, exclusion);
-    group::take_out(mem, 5776, 3, &rec);
+    group::take_out(mem, PROHIBITIONS, PROHIBITION_COUNTER, &rec);
 }

@@ -7,9 +7,9 @@ use Prim.Native.Nat.{ℕ, _≤_, _<_}
 use native.Mathlib.Omega.{arith}
 use borrow.Author.Tests.{le-leb, lt-leb, leb-true, not-true, not-false}
 use lib.Dec.{eqb, leb}
-use Rattle.model.specs.Policy.{Policy, isElementId, kindOf, isThere}
+use Rattle.model.specs.Policy.{Policy, isElementId, kindOf, isThere, isAssigned}
 use Rattle.model.proofs.Truth.{and-left, and-right}
-use Rattle.table.specs.View.{holdsTable}
+use Rattle.table.specs.View.{holdsTable, policyOf}
 use Rattle.table.specs.Facts.{Table}
 use Rattle.table.proofs.Test.{table-of}
 
@@ -58,3 +58,7 @@ not-both false b e = refl
 -- both hold: neither does not
 pub both : (a b : Bool) → (a && b) ≡ true → (not a || not b) ≡ false
 both a b e = rw (and-left a b e, and-right a b e)
+
+-- what was told not to be assigned is not
+pub not-assigned : (mem : List ℕ) (x y : ℕ) {r : Bool} → r ≡ isAssigned (policyOf mem) x y → r ≡ false → isAssigned (policyOf mem) x y ≡ false
+not-assigned mem x y e h = sym e ∙ h

@@ -120,21 +120,21 @@ each-next : (t : ℕ → Bool) (n : ℕ) → eachBelow (suc n) t ≡ (eachBelow 
 unfolding eachBelow
 each-next t n = refl
 
-rise-next : (mem : List ℕ) (up : Bool) (i : ℕ) → 1 ≤ i → up ≡ areRising mem i → (up && ltb (word mem (775 + i)) (word mem (776 + i))) ≡ areRising mem (i + 1)
+rise-next : (mem : List ℕ) (up : Bool) (i : ℕ) → 1 ≤ i → up ≡ areRising mem i → (up && ltb (word mem (776 + i - 1)) (word mem (776 + i))) ≡ areRising mem (i + 1)
 unfolding areRising
 rise-next mem up i h u = go (i - 1) (omega arith)
   where
-    go : (j : ℕ) → i ≡ suc j → (up && ltb (word mem (775 + i)) (word mem (776 + i))) ≡ eachBelow (i + 1 - 1) (λ k. ltb (assignmentWord mem k) (assignmentWord mem (suc k)))
+    go : (j : ℕ) → i ≡ suc j → (up && ltb (word mem (776 + i - 1)) (word mem (776 + i))) ≡ eachBelow (i + 1 - 1) (λ k. ltb (assignmentWord mem k) (assignmentWord mem (suc k)))
     go j e =
         let a : i + 1 - 1 ≡ suc j = omega arith in
         let b : i - 1 ≡ j = omega arith in
-        let c : 775 + i ≡ 776 + j = omega arith in
+        let c : 776 + i - 1 ≡ 776 + j = omega arith in
         let d : 776 + i ≡ 776 + suc j = omega arith in
         let v : up ≡ eachBelow j (λ k. ltb (assignmentWord mem k) (assignmentWord mem (suc k))) = rw b at u in
         rw (a, c, d, each-next (λ k. ltb (assignmentWord mem k) (assignmentWord mem (suc k))) j, v) refl
 
 module _ {mem : List ℕ} {n : ℕ} {up : Bool} {i : ℕ} (r : RiseTo mem n up i) where
-  pub rise-more : i < n → RiseTo mem n (up && ltb (word mem (775 + i)) (word mem (776 + i))) (i + 1)
+  pub rise-more : i < n → RiseTo mem n (up && ltb (word mem (776 + i - 1)) (word mem (776 + i))) (i + 1)
   rise-more l = record { some = omega arith; inside = omega arith; is = rise-next mem up i (r .some) (r .is) }
 
   pub rise-all : n ≤ i → up ≡ areRising mem n
@@ -150,24 +150,24 @@ module _ (mem : List ℕ) (n : ℕ) where
   order-falls {b} e h = let f : areRising mem n ≡ false = sym e ∙ not-true b h in rw f refl
 
   -- where they rise, no word is above the last
-  rising-last : areRising mem n ≡ true → (i : ℕ) → i < n → word mem (776 + i) ≤ word mem (775 + n)
+  rising-last : areRising mem n ≡ true → (i : ℕ) → i < n → word mem (776 + i) ≤ word mem (776 + n - 1)
   unfolding areRising
   rising-last e i h = go (n - 1 - i) i (omega arith)
     where
-      go : (d i : ℕ) → i + d + 1 ≡ n → word mem (776 + i) ≤ word mem (775 + n)
-      go zero i q = let s : 776 + i ≡ 775 + n = omega arith in rw s (omega arith)
+      go : (d i : ℕ) → i + d + 1 ≡ n → word mem (776 + i) ≤ word mem (776 + n - 1)
+      go zero i q = let s : 776 + i ≡ 776 + n - 1 = omega arith in rw s (omega arith)
       go (suc d) i q =
           let r = go d (suc i) (omega arith) in
           let l = ltb-true (assignmentWord mem i) (assignmentWord mem (suc i)) (each-so (λ k. ltb (assignmentWord mem k) (assignmentWord mem (suc k))) (n - 1) e i (omega arith)) in
           omega (arith, r, l)
 
   -- so the last tells whether they are small
-  pub order-last : {b : Bool} → b ≡ areRising mem n → not b ≡ false → (n ≡ 0 → ⊥) → ltb (word mem (775 + n)) 262144 ≡ (areRising mem n && areSmall mem n)
+  pub order-last : {b : Bool} → b ≡ areRising mem n → not b ≡ false → (n ≡ 0 → ⊥) → ltb (word mem (776 + n - 1)) 262144 ≡ (areRising mem n && areSmall mem n)
   unfolding areSmall
   order-last {b} e h z =
       let r : areRising mem n ≡ true = sym e ∙ not-false b h in
-      rw r (same-truth (ltb (word mem (775 + n)) 262144) (eachBelow n (λ i. ltb (assignmentWord mem i) 262144))
-      (λ t. so-each (λ i. ltb (assignmentWord mem i) 262144) n (λ i l. lt-ltb (assignmentWord mem i) 262144 (omega (arith, rising-last r i l, ltb-true (word mem (775 + n)) 262144 t))))
-      (λ t. let s : 775 + n ≡ 776 + (n - 1) = omega (arith, z) in
+      rw r (same-truth (ltb (word mem (776 + n - 1)) 262144) (eachBelow n (λ i. ltb (assignmentWord mem i) 262144))
+      (λ t. so-each (λ i. ltb (assignmentWord mem i) 262144) n (λ i l. lt-ltb (assignmentWord mem i) 262144 (omega (arith, rising-last r i l, ltb-true (word mem (776 + n - 1)) 262144 t))))
+      (λ t. let s : 776 + n - 1 ≡ 776 + (n - 1) = omega (arith, z) in
       let l = each-so (λ i. ltb (assignmentWord mem i) 262144) n t (n - 1) (omega (arith, z)) in
       rw s l))

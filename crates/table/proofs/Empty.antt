@@ -13,7 +13,7 @@ use Rattle.model.specs.Lists.{In, first, later, those, tabulate}
 use Rattle.model.specs.Policy.{Element, Process, isKind, isElementId, emptyPolicy}
 use Rattle.model.specs.Refusal.{answer}
 use Rattle.model.specs.Calls.{kept}
-use Rattle.group.specs.Group.{laid}
+use Rattle.group.specs.Group.{laid, Clear}
 use Rattle.table.specs.declared.Outcome.the-variants.{Done, Refused}
 use Rattle.table.specs.Layout.{wordCount, mark, word}
 use Rattle.table.specs.View.{emptyTable, elementsOf, processesOf, assignmentsOf, associationsOf, prohibitionsOf, policyOf}
@@ -87,3 +87,7 @@ empty-policy =
     (λ a i. let w = tabulate-in 255 (λ i. record { id = suc i; owner = word emptyTable (520 + suc i) }) i in
     ap (λ (b : Process). isElementId (b .owner)) (sym (w .is)) ∙ ap isElementId (empty-word (520 + suc (w .at)) (λ q. omega arith))) in
     rw (e, p, empty-word 1 (λ e. omega arith), empty-word 2 (λ e. omega arith), empty-word 3 (λ e. omega arith)) refl
+
+-- each word behind a group's records is zero
+pub empty-clear : (base width counter most : ℕ) → 0 < base → Clear base width counter most emptyTable
+empty-clear base width counter most h = record { zero-at = λ i l k. empty-word i (λ e. omega arith) }

@@ -6,3 +6,4 @@ pub mod Test
 pub mod Asked
 pub mod Listed
 pub mod Empty
+pub mod Outcomes

@@ -1,14 +1,14 @@
 -- Lists that are told off one by one: who is in them, when they rise, and what a test over them says of each.
 -- Assumes nothing.
-use mathlib.Core.Path.{_≡_, refl, sym, ap, _∙_}
-use mathlib.Core.Bool.{Bool, true}
+use mathlib.Core.Path.{_≡_, refl, sym}
+use mathlib.Core.Bool.{true}
 use mathlib.Core.List.{List}
 use mathlib.Core.Logic.{⊎-elim}
 use Prim.Native.Nat.{ℕ, zero, suc, _<_}
 use native.Mathlib.Nat.{le-of-suc-le-suc, not-suc-le-zero}
 use native.Mathlib.Omega.{arith}
-use Rattle.model.specs.Lists.{In, first, later, allOf, tabulate, before, precedes, rising}
-use Rattle.model.proofs.Truth.{and-join, in-cons, none-in, all-in, all-of}
+use Rattle.model.specs.Lists.{In, first, later, tabulate, before, precedes, rising}
+use Rattle.model.proofs.Truth.{and-join, in-cons, none-in}
 
 -- a is f i for some i below n
 pub record Told {A : Type 0} (n : ℕ) (f : ℕ → A) (a : A) : Type 0 where
@@ -44,10 +44,3 @@ module _ {A : Type 0} where
   rising-tabulate key (suc (suc n)) f h =
       and-join (before (key (f 0)) (key (f 1))) (rising key (tabulate (suc n) (λ j. f (suc j)))) (h 0 (omega arith))
       (rising-tabulate key (suc n) (λ j. f (suc j)) (λ i l. h (suc i) (omega arith)))
-
-  -- a test holds of all exactly if it holds of each
-  pub all-told : (t : A → Bool) (n : ℕ) (f : ℕ → A) → allOf t (tabulate n f) ≡ true → (i : ℕ) → i < n → t (f i) ≡ true
-  all-told t n f e i h = all-in t e (in-tabulate n f i h)
-
-  pub told-all : (t : A → Bool) (n : ℕ) (f : ℕ → A) → ((i : ℕ) → i < n → t (f i) ≡ true) → allOf t (tabulate n f) ≡ true
-  told-all t n f h = all-of t (tabulate n f) (λ a i. let w = tabulate-in n f i in ap t (sym (w .is)) ∙ h (w .at) (w .early))

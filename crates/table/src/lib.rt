@@ -9,6 +9,36 @@ ghost use Rattle.table.specs.View.{areRising, areSmall, areZero, areTidy
 ghost use Rattle.table.specs.Answers.{left, newTable};
 ghost use Rattle.table.specs.Facts.{Table, FirstOf, AtMost};
 
+// Where everything stands in the memory: 8,192 words.
+pub const WORDS: usize = 8192;
+
+// What word 0 of a table holds: "QDR1".
+const MARK: u32 = 0x5144_5231;
+
+// The words that hold how many assignments, associations and prohibitions there are, and how many there can be.
+pub const ASSIGNMENT_COUNTER: usize = 1;
+
+pub const ASSOCIATION_COUNTER: usize = 2;
+
+pub const PROHIBITION_COUNTER: usize = 3;
+
+pub const MOST_ASSIGNMENTS: u32 = 2000;
+
+pub const MOST_ASSOCIATIONS: u32 = 1000;
+
+pub const MOST_PROHIBITIONS: u32 = 200;
+
+// Where the kinds of elements start, the users of processes, the assignments, the associations and the prohibitions.
+pub const KINDS: usize = 8;
+
+pub const USERS: usize = 520;
+
+pub const ASSIGNMENTS: usize = 776;
+
+pub const ASSOCIATIONS: usize = 2776;
+
+pub const PROHIBITIONS: usize = 5776;
+
 // What a call that changes something answers.
 pub enum Outcome {
     Done,
@@ -26,7 +56,7 @@ pub fn kind_of(mem: &[u32], x: u32) -> u32
     if 511 < x {
         return 0;
     }
-    let k = mem[8 + x as usize];
+    let k = mem[KINDS + x as usize];
     if 5 < k {
         return 0;
     }
@@ -83,7 +113,7 @@ pub fn user_of(mem: &[u32], i: u32) -> u32
     if 255 < i {
         return 0;
     }
-    let u = mem[520 + i as usize];
+    let u = mem[USERS + i as usize];
     if 511 < u {
         return 0;
     }
@@ -131,7 +161,7 @@ fn are_tidy(mem: &[u32], n: usize) -> bool
 {
     let mut i = 0;
     while i < n {
-        if !is_tidy(mem, 5776 + 11 * i) {
+        if !is_tidy(mem, PROHIBITIONS + 11 * i) {
             return false;
         }
         i += 1;
@@ -149,7 +179,7 @@ fn are_rising(mem: &[u32], n: usize) -> bool
     let mut up = true;
     let mut i = 1;
     while i < n {
-        up = up & (mem[775 + i] < mem[776 + i]);
+        up = up & (mem[ASSIGNMENTS + i - 1] < mem[ASSIGNMENTS + i]);
         i += 1;
     }
     up
@@ -167,43 +197,43 @@ fn are_in_order(mem: &[u32], n: usize) -> bool
     if !are_rising(mem, n) {
         return false;
     }
-    mem[775 + n] < 262144
+    mem[ASSIGNMENTS + n - 1] < 262144
 }
 
 // Whether the memory holds a table.
 pub fn holds(mem: &[u32]) -> bool
     ensures { λ r. ⌜ r ≡ holdsTable (now (mem .entry)) ⌝ }
 {
-    if mem.len() != 8192 {
+    if mem.len() != WORDS {
         return false;
     }
-    if mem[0] != 1363431985 {
+    if mem[0] != MARK {
         return false;
     }
-    if 2000 < mem[1] {
+    if MOST_ASSIGNMENTS < mem[ASSIGNMENT_COUNTER] {
         return false;
     }
-    if 1000 < mem[2] {
+    if MOST_ASSOCIATIONS < mem[ASSOCIATION_COUNTER] {
         return false;
     }
-    if 200 < mem[3] {
+    if MOST_PROHIBITIONS < mem[PROHIBITION_COUNTER] {
         return false;
     }
-    if !are_in_order(mem, mem[1] as usize) {
+    if !are_in_order(mem, mem[ASSIGNMENT_COUNTER] as usize) {
         return false;
     }
-    are_tidy(mem, mem[3] as usize)
+    are_tidy(mem, mem[PROHIBITION_COUNTER] as usize)
 }
 
 // Makes the memory the empty table.
 pub fn new(mem: &mut [u32]) -> Outcome
     ensures { λ r. ⌜ left r (now (mem .exit)) ≡ newTable (now (mem .entry)) ⌝ }
 {
-    if mem.len() != 8192 {
+    if mem.len() != WORDS {
         return Outcome::Refused(1);
     }
-    group::clear(mem, 0, 8192);
-    mem[0] = 1363431985;
+    group::clear(mem, 0, WORDS);
+    mem[0] = MARK;
     Outcome::Done
 }
 
@@ -215,10 +245,10 @@ pub fn first_of(mem: &[u32], x: u32) -> usize
 {
     let key = x * 512;
     let mut lo = 0;
-    let mut hi = mem[1] as usize;
+    let mut hi = mem[ASSIGNMENT_COUNTER] as usize;
     while lo < hi {
         let mid = lo + (hi - lo) / 2;
-        if mem[776 + mid] < key {
+        if mem[ASSIGNMENTS + mid] < key {
             lo = mid + 1;
         } else {
             hi = mid;
@@ -238,7 +268,7 @@ pub fn is_assigned(mem: &[u32], x: u32, y: u32) -> bool
     let end = first_of(mem, x + 1);
     let mut i = first_of(mem, x);
     while i < end {
-        if mem[776 + i] == key {
+        if mem[ASSIGNMENTS + i] == key {
             return true;
         }
         i += 1;
@@ -251,7 +281,7 @@ pub fn assignment_count(mem: &[u32]) -> usize
     requires { ⌜ Table (now mem) ⌝ }
     ensures { λ r. ⌜ r ≡ assignmentCount (now (mem .entry)) ⌝ }
 {
-    mem[1] as usize
+    mem[ASSIGNMENT_COUNTER] as usize
 }
 
 // The child of assignment i.
@@ -260,7 +290,7 @@ pub fn child_at(mem: &[u32], i: usize) -> u32
     requires { ⌜ i < assignmentCount (now mem) ⌝ }
     ensures { λ r. ⌜ r ≡ assignmentAt (now (mem .entry)) i .child ⌝ }
 {
-    mem[776 + i] / 512
+    mem[ASSIGNMENTS + i] / 512
 }
 
 // The container of assignment i.
@@ -269,7 +299,7 @@ pub fn container_at(mem: &[u32], i: usize) -> u32
     requires { ⌜ i < assignmentCount (now mem) ⌝ }
     ensures { λ r. ⌜ r ≡ assignmentAt (now (mem .entry)) i .container ⌝ }
 {
-    mem[776 + i] % 512
+    mem[ASSIGNMENTS + i] % 512
 }
 
 // How many associations there are.
@@ -277,7 +307,7 @@ pub fn association_count(mem: &[u32]) -> usize
     requires { ⌜ Table (now mem) ⌝ }
     ensures { λ r. ⌜ r ≡ associationCount (now (mem .entry)) ⌝ }
 {
-    mem[2] as usize
+    mem[ASSOCIATION_COUNTER] as usize
 }
 
 // The user attribute of association i.
@@ -286,7 +316,7 @@ pub fn attribute_at(mem: &[u32], i: usize) -> u32
     requires { ⌜ i < associationCount (now mem) ⌝ }
     ensures { λ r. ⌜ r ≡ associationAt (now (mem .entry)) i .attribute ⌝ }
 {
-    mem[2776 + 2 * i] / 512
+    mem[ASSOCIATIONS + 2 * i] / 512
 }
 
 // The target of association i.
@@ -295,7 +325,7 @@ pub fn target_at(mem: &[u32], i: usize) -> u32
     requires { ⌜ i < associationCount (now mem) ⌝ }
     ensures { λ r. ⌜ r ≡ associationAt (now (mem .entry)) i .target ⌝ }
 {
-    mem[2776 + 2 * i] % 512
+    mem[ASSOCIATIONS + 2 * i] % 512
 }
 
 // The rights of association i.
@@ -304,7 +334,7 @@ pub fn rights_at(mem: &[u32], i: usize) -> u32
     requires { ⌜ i < associationCount (now mem) ⌝ }
     ensures { λ r. ⌜ r ≡ associationAt (now (mem .entry)) i .rights ⌝ }
 {
-    mem[2776 + 2 * i + 1]
+    mem[ASSOCIATIONS + 2 * i + 1]
 }
 
 // How many prohibitions there are.
@@ -312,7 +342,7 @@ pub fn prohibition_count(mem: &[u32]) -> usize
     requires { ⌜ Table (now mem) ⌝ }
     ensures { λ r. ⌜ r ≡ prohibitionCount (now (mem .entry)) ⌝ }
 {
-    mem[3] as usize
+    mem[PROHIBITION_COUNTER] as usize
 }
 
 // The subject's sort of prohibition i.
@@ -321,7 +351,7 @@ pub fn sort_at(mem: &[u32], i: usize) -> u32
     requires { ⌜ i < prohibitionCount (now mem) ⌝ }
     ensures { λ r. ⌜ r ≡ prohibitionAt (now (mem .entry)) i .sort ⌝ }
 {
-    mem[5776 + 11 * i] / 1024
+    mem[PROHIBITIONS + 11 * i] / 1024
 }
 
 // The subject of prohibition i.
@@ -330,7 +360,7 @@ pub fn subject_at(mem: &[u32], i: usize) -> u32
     requires { ⌜ i < prohibitionCount (now mem) ⌝ }
     ensures { λ r. ⌜ r ≡ prohibitionAt (now (mem .entry)) i .subject ⌝ }
 {
-    mem[5776 + 11 * i] / 2 % 512
+    mem[PROHIBITIONS + 11 * i] / 2 % 512
 }
 
 // The form of prohibition i.
@@ -339,34 +369,34 @@ pub fn form_at(mem: &[u32], i: usize) -> u32
     requires { ⌜ i < prohibitionCount (now mem) ⌝ }
     ensures { λ r. ⌜ r ≡ prohibitionAt (now (mem .entry)) i .form ⌝ }
 {
-    mem[5776 + 11 * i] % 2
+    mem[PROHIBITIONS + 11 * i] % 2
 }
 
 // The rights of prohibition i.
-pub fn prohibited_at(mem: &[u32], i: usize) -> u32
+pub fn prohibition_rights_at(mem: &[u32], i: usize) -> u32
     requires { ⌜ Table (now mem) ⌝ }
     requires { ⌜ i < prohibitionCount (now mem) ⌝ }
     ensures { λ r. ⌜ r ≡ prohibitionAt (now (mem .entry)) i .rights ⌝ }
 {
-    mem[5776 + 11 * i + 1]
+    mem[PROHIBITIONS + 11 * i + 1]
 }
 
 // How many inclusions prohibition i has.
-pub fn inclusions_at(mem: &[u32], i: usize) -> usize
+pub fn inclusion_count_at(mem: &[u32], i: usize) -> usize
     requires { ⌜ Table (now mem) ⌝ }
     requires { ⌜ i < prohibitionCount (now mem) ⌝ }
     ensures { λ r. ⌜ AtMost (inclusionCount (now (mem .entry)) (prohibitionStart i)) 4 r ⌝ }
 {
-    (mem[5776 + 11 * i + 2] / 8 % 8) as usize
+    (mem[PROHIBITIONS + 11 * i + 2] / 8 % 8) as usize
 }
 
 // How many exclusions prohibition i has.
-pub fn exclusions_at(mem: &[u32], i: usize) -> usize
+pub fn exclusion_count_at(mem: &[u32], i: usize) -> usize
     requires { ⌜ Table (now mem) ⌝ }
     requires { ⌜ i < prohibitionCount (now mem) ⌝ }
     ensures { λ r. ⌜ AtMost (exclusionCount (now (mem .entry)) (prohibitionStart i)) 4 r ⌝ }
 {
-    (mem[5776 + 11 * i + 2] % 8) as usize
+    (mem[PROHIBITIONS + 11 * i + 2] % 8) as usize
 }
 
 // Id k of those that prohibition i lists, the inclusions first.
@@ -376,5 +406,5 @@ pub fn listed_at(mem: &[u32], i: usize, k: usize) -> u32
     requires { ⌜ k < 8 ⌝ }
     ensures { λ r. ⌜ r ≡ word (now (mem .entry)) (prohibitionStart i + 3 + k) ⌝ }
 {
-    mem[5776 + 11 * i + 3 + k]
+    mem[PROHIBITIONS + 11 * i + 3 + k]
 }

@@ -8,6 +8,7 @@ use table::Outcome;
 ghost use mathlib.Core.Path.{_≡_};
 ghost use Prim.Native.Nat.{_<_};
 ghost use lib.ListN.{length};
+ghost use Rattle.table.specs.Facts.{Table};
 
 // A letter, a number and the end of the line.
 fn say(letter: u8, n: u32) {
@@ -42,6 +43,31 @@ fn say_matching(m: Matching) {
     }
 }
 
+// Gives element x a kind, 0 for none; says 2 where it is no kind.
+fn give_kind(mem: &mut [u32], x: u32, kind: u32)
+    requires { ⌜ Table (now mem) ⌝ }
+    requires { ⌜ x < 512 ⌝ }
+{
+    if 5 < kind {
+        say(b'R', 2);
+        return;
+    }
+    store::set_kind(mem, x, kind);
+}
+
+// Puts an assignment in; says 3 where it is there, and 10 at the limit.
+fn assign(mem: &mut [u32], x: u32, y: u32)
+    requires { ⌜ Table (now mem) ⌝ }
+    requires { ⌜ x < 512 ⌝ }
+    requires { ⌜ y < 512 ⌝ }
+{
+    if table::is_assigned(mem, x, y) {
+        say(b'R', 3);
+        return;
+    }
+    say_refusal(store::add_assignment(mem, x, y));
+}
+
 // The steps that change the table; on memory that holds none they say 1.
 fn change(mem: &mut [u32], letter: u8, a: u32, b: u32) {
     if !table::holds(mem) {
@@ -51,11 +77,11 @@ fn change(mem: &mut [u32], letter: u8, a: u32, b: u32) {
     let x = a % 512;
     let y = b % 512;
     if letter == b'K' {
-        store::set_kind(mem, x, b);
+        give_kind(mem, x, b);
         return;
     }
     if letter == b'A' {
-        say_refusal(store::add_assignment(mem, x, y));
+        assign(mem, x, y);
         return;
     }
     if letter == b'D' {
@@ -142,6 +168,10 @@ fn step(mem: &mut [u32], idx: &mut [u8], room: &mut [u8], letter: u8, a: u32, b:
     }
     if letter == b'X' {
         mem[(a % 8192) as usize] = v;
+        return;
+    }
+    if letter == b'Y' {
+        mem[table::KINDS + (a % 512) as usize] = b;
         return;
     }
     if letter == b'C' {

@@ -54,14 +54,14 @@ split zero k v = rw zero-add
 split (suc m) k v = rw (suc-add m k, shr-shr v k m, add-comm k m, split m k v)
 
 -- bits past the nth do not count
-high : (n h v : ℕ) → bitsN n (h * 2 ^ n + v) ≡ bitsN n v
+pub high : (n h v : ℕ) → bitsN n (h * 2 ^ n + v) ≡ bitsN n v
 unfolding bitsN
 high zero h v = refl
 high (suc n) h v =
     let e : h * 2 ^ suc n ≡ h * 2 * 2 ^ n = rw (pow-suc, mul-comm (2 ^ n) 2, ← mul-assoc) in
     rw (e, mul-add-div-right (pow-pos n) (h * 2) v, odd-high h (v / 2 ^ n), high n (h * 2) v)
 
-num-low : (n v : ℕ) → numOf (bitsN n v) ≡ v % 2 ^ n
+pub num-low : (n v : ℕ) → numOf (bitsN n v) ≡ v % 2 ^ n
 unfolding numOf bitsN
 num-low zero v = sym (mod-one v)
 num-low (suc n) v = rw (length-bitsN n v, num-low n v, digit-odd, ← one-add n) (sym (mod-pow-add v 1 n))

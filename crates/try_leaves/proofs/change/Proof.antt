@@ -5,79 +5,74 @@ use Rattle.try_leaves.proofs.change.Statement.{statement}
 use Rattle.try_leaves.proofs.change.Tie as tie
 use Rattle.try_leaves.proofs.change.Reads as reads
 use Rattle.try_leaves.proofs.change.Lts as lts
-use Rattle.store.proofs.add_assignment.Reads as add-assignment-reads
-use Rattle.store.proofs.set_kind.Reads as set-kind-reads
 use Rattle.store.proofs.take_assignment.Reads as take-assignment-reads
 use Rattle.store.proofs.take_assignments_of.Reads as take-assignments-of-reads
 use Rattle.table.proofs.holds.Reads as holds-reads
+use Rattle.try_leaves.proofs.assign.Reads as assign-reads
+use Rattle.try_leaves.proofs.give_kind.Reads as give-kind-reads
 use Rattle.try_leaves.proofs.say.Reads as say-reads
-use Rattle.try_leaves.proofs.say_refusal.Reads as say-refusal-reads
 
--- src/main.rt:46:9
+-- src/main.rt:73:9
 holds-requires : tie.Need-holds-requires
 holds-requires c κs = search needs
 
--- src/main.rt:47:9
+-- src/main.rt:74:9
 say-requires : tie.Need-say-requires
 say-requires c κs = search needs
 
--- src/main.rt:48:9
+-- src/main.rt:75:9
 same-length : tie.Need-same-length
 same-length c = search needs
 
--- src/main.rt:48:9
+-- src/main.rt:75:9
 returns : tie.Need-returns
 returns c = search needs
 
--- src/main.rt:53:9
-set-kind-requires : tie.Need-set-kind-requires
-set-kind-requires c κs = (search tested, omega arith)
+-- src/main.rt:80:9
+give-kind-requires : tie.Need-give-kind-requires
+give-kind-requires c κs = (search tested, omega arith)
 
--- src/main.rt:54:9
+-- src/main.rt:81:9
 same-length-2 : tie.Need-same-length-2
 same-length-2 c = search needs
 
--- src/main.rt:54:9
+-- src/main.rt:81:9
 returns-2 : tie.Need-returns-2
 returns-2 c = search needs
 
--- src/main.rt:57:21
-add-assignment-requires : tie.Need-add-assignment-requires
-add-assignment-requires c κs = (search tested, (omega arith, omega arith))
+-- src/main.rt:84:9
+assign-requires : tie.Need-assign-requires
+assign-requires c κs = (search tested, (omega arith, omega arith))
 
--- src/main.rt:57:9
-say-refusal-requires : tie.Need-say-refusal-requires
-say-refusal-requires c κs = search needs
-
--- src/main.rt:58:9
+-- src/main.rt:85:9
 same-length-3 : tie.Need-same-length-3
 same-length-3 c = search needs
 
--- src/main.rt:58:9
+-- src/main.rt:85:9
 returns-3 : tie.Need-returns-3
 returns-3 c = search needs
 
--- src/main.rt:61:9
+-- src/main.rt:88:9
 take-assignment-requires : tie.Need-take-assignment-requires
 take-assignment-requires c κs = (search tested, (omega arith, omega arith))
 
--- src/main.rt:62:9
+-- src/main.rt:89:9
 same-length-4 : tie.Need-same-length-4
 same-length-4 c = search needs
 
--- src/main.rt:62:9
+-- src/main.rt:89:9
 returns-4 : tie.Need-returns-4
 returns-4 c = search needs
 
--- src/main.rt:64:5
+-- src/main.rt:91:5
 take-assignments-of-requires : tie.Need-take-assignments-of-requires
 take-assignments-of-requires c κs = (search tested, omega arith)
 
--- src/main.rt:45:1
+-- src/main.rt:72:1
 same-length-5 : tie.Need-same-length-5
 same-length-5 c = search needs
 
--- src/main.rt:45:1
+-- src/main.rt:72:1
 returns-5 : tie.Need-returns-5
 returns-5 c = search needs
 
@@ -89,11 +84,10 @@ change-spec =
     say-requires
     same-length
     returns
-    set-kind-requires
+    give-kind-requires
     same-length-2
     returns-2
-    add-assignment-requires
-    say-refusal-requires
+    assign-requires
     same-length-3
     returns-3
     take-assignment-requires

@@ -1,9 +1,9 @@
 use Rattle.table.proofs.Listed.{inclusions-few}
 use borrow.Author.Needs.{needs}
-use Rattle.table.proofs.inclusions_at.Statement.{statement}
-use Rattle.table.proofs.inclusions_at.Tie as tie
-use Rattle.table.proofs.inclusions_at.Reads as reads
-use Rattle.table.proofs.inclusions_at.Lts as lts
+use Rattle.table.proofs.inclusion_count_at.Statement.{statement}
+use Rattle.table.proofs.inclusion_count_at.Tie as tie
+use Rattle.table.proofs.inclusion_count_at.Reads as reads
+use Rattle.table.proofs.inclusion_count_at.Lts as lts
 
 -- src/lib.rt:314:17
 mul-result : tie.Need-mul-result
@@ -33,8 +33,8 @@ cast-result c = search needs
 returns : tie.Need-returns
 returns c = search inclusions-few
 
-pub inclusions-at-spec : {M : Type 1} → statement M
-inclusions-at-spec =
+pub inclusion-count-at-spec : {M : Type 1} → statement M
+inclusion-count-at-spec =
     tie.close
     (tie.spec
     mul-result

@@ -1,9 +1,9 @@
 use Rattle.table.proofs.Listed.{exclusions-few}
 use borrow.Author.Needs.{needs}
-use Rattle.table.proofs.exclusions_at.Statement.{statement}
-use Rattle.table.proofs.exclusions_at.Tie as tie
-use Rattle.table.proofs.exclusions_at.Reads as reads
-use Rattle.table.proofs.exclusions_at.Lts as lts
+use Rattle.table.proofs.exclusion_count_at.Statement.{statement}
+use Rattle.table.proofs.exclusion_count_at.Tie as tie
+use Rattle.table.proofs.exclusion_count_at.Reads as reads
+use Rattle.table.proofs.exclusion_count_at.Lts as lts
 
 -- src/lib.rt:323:17
 mul-result : tie.Need-mul-result
@@ -33,8 +33,8 @@ cast-result c = search needs
 returns : tie.Need-returns
 returns c = search exclusions-few
 
-pub exclusions-at-spec : {M : Type 1} → statement M
-exclusions-at-spec =
+pub exclusion-count-at-spec : {M : Type 1} → statement M
+exclusion-count-at-spec =
     tie.close
     (tie.spec
     mul-result
