@@ -5,7 +5,8 @@
 //! | step | does | prints |
 //! |---|---|---|
 //! | `N` | makes the empty table | |
-//! | `X` | spoils the memory, so that it holds no table | |
+//! | `X` | puts v at word a, so that the memory holds no table | |
+//! | `W` | puts v at word a, so that it holds a table still, of the same elements and assignments | |
 //! | `K` | gives element a kind b, 0 for none | `R 2` for a b above 5 |
 //! | `Y` | puts b, a number above 5, where the kind of element a stands: the element is none | |
 //! | `A` | puts in the assignment of a to b | `R 3` where it is there, `R 10` at the limit |
@@ -20,7 +21,8 @@
 //! | `P` | writes the a low bits of v from bit b on | |
 //! | `G` | reads a bits from bit b on | `G n`, or `R 12` where the 64 bytes end before |
 //!
-//! On memory that holds no table every step about the table or its index, but `N`, `X`, `Y`, `F` and `I`, prints `R 1`.
+//! On memory that holds no table every step about the table or its index, but `N`, `X`, `W`, `Y`, `F` and `I`, prints `R 1`.
+//! Which words those are, docs/CONTRACTS.md says ("Which memory holds a table").
 
 use crate::index::{bit, build_index, is_index, INDEX_BYTES};
 use crate::make::Random;
@@ -99,6 +101,7 @@ impl State {
         match letter {
             b'N' => self.table = Some(Policy::new()),
             b'X' => self.table = None,
+            b'W' => {}
             b'Y' => {
                 if let Some(policy) = &mut self.table {
                     policy.elements.remove(&((a % 512) as u16));
@@ -184,6 +187,7 @@ pub fn leaves_script() -> Vec<u8> {
     ladder(&mut script);
     limits(&mut script);
     odd_tables(&mut script, &mut random);
+    spoilt(&mut script);
     bits(&mut script, &mut random);
     script.0
 }
@@ -285,7 +289,7 @@ fn limits(script: &mut Script) {
     script.ask(509, 509);
 }
 
-/// Cycles, elements that are not there on a chain, a foreign and a short index, spoilt memory.
+/// Cycles, elements that are not there on a chain, a foreign and a short index, random tables.
 fn odd_tables(script: &mut Script, random: &mut Random) {
     script.alone(b'N');
     for id in [1, 2, 3, 5, 511] {
@@ -338,10 +342,59 @@ fn odd_tables(script: &mut Script, random: &mut Random) {
             script.ask(random.between(1, most), random.between(1, most));
         }
     }
-    // spoilt memory
-    script.alone(b'X');
-    script.two(b'C', 1, 1);
+}
+
+/// Memory that holds a table to its last allowed count, and memory spoilt by each line of what a table must be.
+fn spoilt(script: &mut Script) {
+    let table = |script: &mut Script| {
+        script.alone(b'N');
+        for id in [1, 2, 3] {
+            script.two(b'K', id, 2);
+        }
+        // assignments stand from word 776 on, child * 512 + container
+        script.two(b'A', 1, 2);
+        script.two(b'A', 1, 3);
+    };
+    // as many associations and prohibitions as there can be, all of zeros
+    table(script);
+    script.step(b'W', 2, 0, 1_000);
+    script.step(b'W', 3, 0, 200);
+    script.two(b'C', 1, 3);
+    // four ids in each list of the last prohibition, and its last place taken
+    script.step(b'W', 7_967, 0, 4 * 8 + 4);
+    script.step(b'W', 7_975, 0, 1);
+    script.two(b'C', 1, 3);
+    let ways: [&[(u32, u32)]; 13] = [
+        &[(0, 0)],
+        &[(0, u32::MAX)],
+        &[(1, 2_001)],
+        &[(2, 1_001)],
+        &[(3, 201)],
+        // the second assignment not above the first, its child not below 512
+        &[(777, 514)],
+        &[(777, 513)],
+        &[(777, 262_144)],
+        // one assignment more than there are: its word is 0
+        &[(1, 3)],
+        // a prohibition with five inclusions, with five exclusions, with an id in a place that none takes
+        &[(3, 1), (5_778, 40)],
+        &[(3, 1), (5_778, 5)],
+        &[(3, 1), (5_779, 7)],
+        &[(3, 1), (5_778, 8), (5_780, 7)],
+    ];
+    for way in ways {
+        table(script);
+        script.two(b'C', 1, 2);
+        for (word, value) in way {
+            script.step(b'X', *word, 0, *value);
+        }
+        script.two(b'C', 1, 2);
+    }
+    // every step about the table is refused
     script.two(b'A', 1, 2);
+    script.two(b'D', 1, 2);
+    script.two(b'U', 1, 0);
+    script.two(b'K', 1, 2);
     script.alone(b'B');
     script.alone(b'L');
     script.alone(b'T');

@@ -11,6 +11,7 @@ fn stored(name: &str) -> Vec<u8> {
 #[test]
 fn stored_script_and_output_are_ours() {
     let script = second::leaves_script();
+    assert!(script.len() <= 65_536, "the program reads no more than 65,536 bytes");
     assert!(script == stored("stdin"), "stdin is another script");
     assert!(second::leaves(&script).as_bytes() == stored("stdout"), "stdout is another output");
 }

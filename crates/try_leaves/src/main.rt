@@ -170,6 +170,10 @@ fn step(mem: &mut [u32], idx: &mut [u8], room: &mut [u8], letter: u8, a: u32, b:
         mem[(a % 8192) as usize] = v;
         return;
     }
+    if letter == b'W' {
+        mem[(a % 8192) as usize] = v;
+        return;
+    }
     if letter == b'Y' {
         mem[table::KINDS + (a % 512) as usize] = b;
         return;
