@@ -5,10 +5,13 @@
 //! assignments, one sentence of 01 after the other.
 //!
 //! Arguments of calls are `u32`, so that numbers out of range can be tried. A refusal is 01's number.
-//! Refusal 1 speaks of working memory; this program has none, so only `leaves` gives it, where a script says so.
+//! Refusal 1 speaks of working memory; this program has none, so only `leaves` and `decisions` give it, where a script
+//! says so: `words` reads memory as the project's pages publish it.
 
+pub mod bench;
 pub mod command;
 pub mod decide;
+pub mod decisions;
 pub mod desk;
 pub mod explain;
 pub mod house;
@@ -17,15 +20,20 @@ pub mod index;
 pub mod leaves;
 pub mod make;
 pub mod policy;
+pub mod script;
+pub mod words;
 
+pub use bench::bench_script;
 pub use command::{Command, Machine};
 pub use decide::{decide, decide_indexed, Answer};
+pub use decisions::decisions;
 pub use desk::desk;
 pub use explain::{explain, explain_into, Explanation, Row};
 pub use image::{load, save, save_into};
 pub use index::{build_index, build_index_into, is_index};
 pub use leaves::{leaves, leaves_script};
 pub use policy::{contains, Policy, Prohibition};
+pub use script::decisions_script;
 
 /// 01, "Refusal numbers". The names are this program's own, the numbers are 01's.
 pub mod refusal {

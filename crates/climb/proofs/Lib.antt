@@ -3,4 +3,6 @@ pub mod Queue
 pub mod Turns
 pub mod Steps
 pub mod Exactly
+pub mod Onward
+pub mod Rows
 pub mod Answered

@@ -9,7 +9,7 @@ use native.Mathlib.Decide.{ℕ-discrete, decLt}
 use mathlib.Core.List.{List, [], _∷_}
 use lib.ListN.{length, getD, set, replicate, length-set, length-replicate, getD-replicate, List·getD-eq-default}
 use lib.Seq.{getD-set-same, getD-set-other}
-use Rattle.climb.specs.Queued.{Marked, isOne, markCount, At, Listed, Grown}
+use Rattle.climb.specs.Queued.{Marked, isOne, markCount, At, Listed, Grown, Closed}
 
 -- a mark counts at most once
 isOne-le : (x : ℕ) → isOne x ≤ 1
@@ -40,7 +40,7 @@ marks-none zero = refl
 marks-none (suc n) = omega (arith, marks-none n)
 
 -- each mark is 0
-zeros : (y : ℕ) → _≡_ {A = ℕ} (getD (replicate 512 0) y 0) 0
+pub zeros : (y : ℕ) → _≡_ {A = ℕ} (getD (replicate 512 0) y 0) 0
 zeros y = elim (decLt y 512) [
   | yes l ↦ getD-replicate {A = ℕ} 512 y 0 0 l
   | no l ↦ List·getD-eq-default (replicate 512 0) 0 {n = y} (omega (arith, length-replicate {A = ℕ} 512 0))
@@ -54,8 +54,15 @@ listed-none = record {
   counted = marks-none 512;
   short = omega arith;
   bit = λ y. omega (arith, zeros y);
-  small = λ k l. absurd (omega arith);
+  marked = λ k l. absurd (omega arith);
   listed = λ y l m. absurd (omega (arith, zeros y));
+}
+
+-- so each container of a marked element is marked: where nothing is marked, a climb can start
+pub closed-none : (mem : List ℕ) → Closed mem (replicate 512 0) (replicate 512 0) 0
+closed-none mem = record {
+  good = listed-none;
+  closed = λ x y l m c. absurd (omega (arith, zeros x));
 }
 
 module _ {seen queue : List ℕ} {tail : ℕ} (g : Listed seen queue tail) where
@@ -111,11 +118,11 @@ module _ {seen queue : List ℕ} {tail : ℕ} (g : Listed seen queue tail) where
     last : (k : ℕ) → tail ≤ k → k < tail + 1 → getD (set queue tail y) k 0 ≡ y
     last k l l′ = let e : k ≡ tail = omega arith in rw e queue-same
 
-    -- all that is queued is below 512
-    smalls : (k : ℕ) → k < tail + 1 → getD (set queue tail y) k 0 < 512
-    smalls k l = elim (decLt k tail) [
-      | yes b ↦ omega (arith, queue-other k b, g .small k b)
-      | no b ↦ omega (arith, last k (omega arith) l)
+    -- all that is queued is marked
+    marked : (k : ℕ) → k < tail + 1 → Marked (set seen y 1) (getD (set queue tail y) k 0)
+    marked k l = elim (decLt k tail) [
+      | yes b ↦ rw (queue-other k b) (still (getD queue k 0) (g .marked k b))
+      | no b ↦ rw (last k (omega arith) l) mark-same
     ]
 
     -- each mark is 0 or 1
@@ -134,7 +141,7 @@ module _ {seen queue : List ℕ} {tail : ℕ} (g : Listed seen queue tail) where
         counted = omega (arith, marks-set seen y (omega arith) n);
         short = omega (arith, room);
         bit = bits;
-        small = smalls;
+        marked = marked;
         listed = listed;
       };
       longer = omega arith;
@@ -143,6 +150,15 @@ module _ {seen queue : List ℕ} {tail : ℕ} (g : Listed seen queue tail) where
       still = still;
       all = λ z e. rw e mark-same;
     }
+
+-- what is marked after is one that was marked before or that P says
+pub grown-split : {P : ℕ → Type 0} {s q : List ℕ} {t : ℕ} {s′ q′ : List ℕ} {t′ : ℕ} → Listed s q t → Grown P s q t s′ q′ t′ → (y : ℕ) → Marked s′ y → Marked s y ⊎ P y
+grown-split {P} {s} {t = t} {q′ = q′} g r y m =
+    let a = r .good .listed y (marked-small (r .good) y m) m in
+    elim (decLt (a .at) t) [
+      | yes b ↦ inl (subst (Marked s) (sym (r .kept (a .at) b) ∙ a .is) (g .marked (a .at) b))
+      | no b ↦ inr (subst P (a .is) (r .new (a .at) (omega arith) (a .early)))
+    ]
 
 -- P's elements first and then Q's are R's
 pub grow-then : {P Q : ℕ → Type 0} (R : ℕ → Type 0) {s q : List ℕ} {t : ℕ} {s′ q′ : List ℕ} {t′ : ℕ} {s″ q″ : List ℕ} {t″ : ℕ}

@@ -2,12 +2,13 @@
 -- Assumes nothing.
 use mathlib.Core.Path.{_≡_}
 use mathlib.Core.List.{List, [], _∷_}
-use Prim.Native.Nat.{ℕ, zero, suc, _+_, _≤_, _<_}
+use Prim.Native.Nat.{ℕ, zero, suc, _+_, _*_, _≤_, _<_}
 use lib.ListN.{length, getD}
 use Rattle.model.specs.Contain.{Within}
 use Rattle.table.specs.Layout.{assignmentCount}
 use Rattle.table.specs.View.{policyOf}
 use Rattle.table.specs.Facts.{AmongFirst}
+use Rattle.climb.specs.Marking.{marksOf, alsoMarks}
 
 -- some assignment of the table has x for its child and y for its container
 abbrev pub Container : List ℕ → (x y : ℕ) → Type 0
@@ -41,7 +42,7 @@ pub record Listed (seen queue : List ℕ) (tail : ℕ) : Type 0 where
   pub counted : markCount seen ≡ tail
   pub short : tail ≤ 512
   pub bit : (y : ℕ) → getD seen y 0 ≤ 1
-  pub small : (k : ℕ) → k < tail → getD queue k 0 < 512
+  pub marked : (k : ℕ) → k < tail → Marked seen (getD queue k 0)
   pub listed : (y : ℕ) → y < 512 → Marked seen y → At queue tail y
 
 -- from the marks and the queue before to those after, every element that P says is marked, and nothing else is added
@@ -53,10 +54,37 @@ pub record Grown (P : ℕ → Type 0) (seen queue : List ℕ) (tail : ℕ) (seen
   pub still : (y : ℕ) → Marked seen y → Marked seen′ y
   pub all : (y : ℕ) → P y → Marked seen′ y
 
--- the climb from s stands at `head`: s is within all that is queued, and each container of an element before `head` is marked
-pub record Front (mem : List ℕ) (s : ℕ) (seen queue : List ℕ) (head tail : ℕ) : Type 0 where
+-- the climb stands at `head`: each container of an element before `head` is marked
+pub record Front (mem seen queue : List ℕ) (head tail : ℕ) : Type 0 where
   pub good : Listed seen queue tail
   pub order : head ≤ tail
-  pub start : Marked seen s
-  pub sound : (k : ℕ) → k < tail → Within (policyOf mem .assignments) s (getD queue k 0)
   pub closed : (k : ℕ) → k < head → (y : ℕ) → Container mem (getD queue k 0) y → Marked seen y
+
+-- the first `tail` of the queue are the marked elements, and each container of a marked element is marked
+pub record Closed (mem seen queue : List ℕ) (tail : ℕ) : Type 0 where
+  pub good : Listed seen queue tail
+  pub closed : (x y : ℕ) → x < 512 → Marked seen x → Container mem x y → Marked seen y
+
+-- some marked element is within y
+pub record FromMarked (mem seen : List ℕ) (y : ℕ) : Type 0 where
+  pub start : ℕ
+  pub marked : Marked seen start
+  pub leads : Within (policyOf mem .assignments) start y
+
+-- the climb is over: all that an element marked before is within is marked, and nothing else
+pub record Climbed (mem seen seen′ queue′ : List ℕ) (tail′ : ℕ) : Type 0 where
+  pub still : Closed mem seen′ queue′ tail′
+  pub all : (x y : ℕ) → Marked seen x → Within (policyOf mem .assignments) x y → Marked seen′ y
+  pub only : (y : ℕ) → Marked seen′ y → FromMarked mem seen y
+
+-- all that x is within is marked besides, and nothing else
+pub record Further (mem : List ℕ) (x : ℕ) (seen seen′ queue′ : List ℕ) (tail′ : ℕ) : Type 0 where
+  pub marks : seen′ ≡ alsoMarks mem seen x
+  pub still : Closed mem seen′ queue′ tail′
+
+-- row k holds the marks of all that x is within, 512 bytes a row, and every other byte stays
+pub record RowMarked (mem : List ℕ) (x k : ℕ) (rows rows′ : List ℕ) : Type 0 where
+  pub size : length rows′ ≡ length rows
+  pub row : (y : ℕ) → y < 512 → getD rows′ (512 * k + y) 0 ≡ getD (marksOf mem x) y 0
+  pub below : (i : ℕ) → i < 512 * k → getD rows′ i 0 ≡ getD rows i 0
+  pub above : (i : ℕ) → 512 * k + 512 ≤ i → getD rows′ i 0 ≡ getD rows i 0

@@ -1,14 +1,14 @@
 // Containment by chains of assignments: all that an element is within, by a breadth-first climb over the table.
 ghost use mathlib.Core.Path.{_≡_};
-ghost use Prim.Native.Nat.{_<_};
-ghost use lib.ListN.{getD};
+ghost use Prim.Native.Nat.{_+_, _*_, _≤_, _<_};
+ghost use lib.ListN.{length};
 ghost use Rattle.model.specs.Contain.{contained};
 ghost use Rattle.model.specs.Refusal.{accepted};
 ghost use Rattle.model.specs.Calls.{contains};
 ghost use Rattle.table.specs.View.{policyOf, memory};
 ghost use Rattle.table.specs.Facts.{Table};
 ghost use Rattle.climb.specs.Marking.{marksOf};
-ghost use Rattle.climb.specs.Queued.{Container, Listed, Grown, Front};
+ghost use Rattle.climb.specs.Queued.{Container, Listed, Grown, Front, Closed, Climbed, Further, RowMarked};
 ghost use Rattle.climb.specs.Answers.{told};
 
 // What the plain containment call answers.
@@ -56,16 +56,40 @@ fn offer_containers(
     t
 }
 
-// Takes the next element of the queue, offers its containers, and climbs on until the queue has no next one.
-fn climb(mem: &[u32], seen: &mut [u8; 512], queue: &mut [u32; 512], head: usize, tail: usize)
+// Takes the next element of the queue, offers its containers, and climbs on until the queue has no next one. Returns how many are queued then.
+fn climb(
+    mem: &[u32],
+    seen: &mut [u8; 512],
+    queue: &mut [u32; 512],
+    head: usize,
+    tail: usize,
+) -> usize
     requires { ⌜ Table (now mem) ⌝ }
-    requires { ⌜ Front (now mem) (getD (now queue) 0 0) (now seen) (now queue) head tail ⌝ }
-    ensures { λ _. ⌜ now (seen .exit) ≡ marksOf (now (mem .entry)) (getD (now (queue .entry)) 0 0) ⌝ }
+    requires { ⌜ Front (now mem) (now seen) (now queue) head tail ⌝ }
+    ensures { λ r. ⌜ Climbed (now (mem .entry)) (now (seen .entry)) (now (seen .exit)) (now (queue .exit)) r ⌝ }
 {
-    if head < tail {
-        let t = offer_containers(mem, queue[head], seen, queue, tail);
-        climb(mem, seen, queue, head + 1, t);
+    if tail <= head {
+        return tail;
     }
+    let t = offer_containers(mem, queue[head], seen, queue, tail);
+    climb(mem, seen, queue, head + 1, t)
+}
+
+// Marks all that x is within besides what is marked already; what was marked is not climbed from again. Returns how many are queued then.
+pub fn climb_on(
+    mem: &[u32],
+    x: u32,
+    seen: &mut [u8; 512],
+    queue: &mut [u32; 512],
+    tail: usize,
+) -> usize
+    requires { ⌜ Table (now mem) ⌝ }
+    requires { ⌜ x < 512 ⌝ }
+    requires { ⌜ Closed (now mem) (now seen) (now queue) tail ⌝ }
+    ensures { λ r. ⌜ Further (now (mem .entry)) x (now (seen .entry)) (now (seen .exit)) (now (queue .exit)) r ⌝ }
+{
+    let t = offer(x, seen, queue, tail);
+    climb(mem, seen, queue, tail, t)
 }
 
 // Marks all that x is within.
@@ -76,9 +100,24 @@ pub fn marks(mem: &[u32], x: u32) -> [u8; 512]
 {
     let mut seen = [0u8; 512];
     let mut queue = [0u32; 512];
-    let t = offer(x, &mut seen, &mut queue, 0);
-    climb(mem, &mut seen, &mut queue, 0, t);
+    climb_on(mem, x, &mut seen, &mut queue, 0);
     seen
+}
+
+// Writes the marks of all that x is within as row k, 512 bytes a row.
+pub fn mark_row(mem: &[u32], x: u32, rows: &mut [u8], k: usize)
+    requires { ⌜ Table (now mem) ⌝ }
+    requires { ⌜ x < 512 ⌝ }
+    requires { ⌜ 512 * k + 512 ≤ length (now rows) ⌝ }
+    requires { ⌜ length (now rows) ≤ 2048 ⌝ }
+    ensures { λ _. ⌜ RowMarked (now (mem .entry)) x k (now (rows .entry)) (now (rows .exit)) ⌝ }
+{
+    let m = marks(mem, x);
+    let mut y = 0;
+    while y < 512 {
+        rows[512 * k + y] = m[y];
+        y += 1;
+    }
 }
 
 // Whether x is within y: the mark of y in the climb from x.

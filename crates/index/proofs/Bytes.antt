@@ -1,7 +1,7 @@
 -- Bits of bytes, and sums of bytes.
 -- Assumes nothing.
 use mathlib.Core.Path.{_≡_, refl, sym, ap, _∙_}
-use mathlib.Core.Bool.{true}
+use mathlib.Core.Bool.{true, false, _||_}
 use mathlib.Core.List.{List, [], _∷_}
 use mathlib.Core.Logic.{_⊎_, inl, inr}
 use Prim.Native.Nat.{ℕ, zero, suc, _+_, _*_, _-_, _/_, _%_, _^_, _≤_, _<_, zero-le}
@@ -10,7 +10,7 @@ use native.Mathlib.Nat.{le-of-suc-le-suc, not-suc-le-zero, zero-div}
 use borrow.Author.Tests.{eqb-true, eq-eqb}
 use lib.Dec.{eqb}
 use lib.Bits.{bitOr, or-shr, or-mod, or-lt, or-add-and, and-le-r}
-use lib.ListN.{length, getD, set}
+use lib.ListN.{length, getD, set, List·getD-eq-default}
 use Rattle.model.specs.Index.{bitAt}
 use Rattle.index.specs.Rows.{On, sum, both, Joined}
 
@@ -36,8 +36,16 @@ or-right zero l = refl
 or-right (suc zero) l = refl
 or-right (suc (suc n)) l = absurd (omega arith)
 
+-- read as Booleans, what is joined of two bits is the one or the other
+pub or-bits : (a b : ℕ) → a < 2 → b < 2 → eqb (bitOr a b) 1 ≡ (eqb a 1 || eqb b 1)
+or-bits zero b la lb = refl
+or-bits (suc zero) zero la lb = refl
+or-bits (suc zero) (suc zero) la lb = refl
+or-bits (suc zero) (suc (suc n)) la lb = absurd (omega arith)
+or-bits (suc (suc n)) b la lb = absurd (omega arith)
+
 -- bytes are joined bit by bit
-both-bit : (x y j : ℕ) → both x y / 2 ^ j % 2 ≡ bitOr (x / 2 ^ j % 2) (y / 2 ^ j % 2)
+pub both-bit : (x y j : ℕ) → both x y / 2 ^ j % 2 ≡ bitOr (x / 2 ^ j % 2) (y / 2 ^ j % 2)
 unfolding both
 both-bit x y j = ap (λ (n : ℕ). n % 2) (or-shr x y j) ∙ or-mod (x / 2 ^ j) (y / 2 ^ j) 1
 
@@ -73,6 +81,11 @@ joined x y h l = record { is = refl; more = both-more x y; byte = both-byte x y 
 pub bit-read : (idx : List ℕ) (x y : ℕ) → eqb (getD idx (64 * x + y / 8) 0 / 2 ^ (7 - y % 8) % 2) 1 ≡ bitAt idx x y
 unfolding bitAt
 bit-read idx x y = refl
+
+-- past the last byte every bit is 0
+pub bit-past : (idx : List ℕ) (x y : ℕ) → length idx ≤ 64 * x + y / 8 → false ≡ bitAt idx x y
+unfolding bitAt
+bit-past idx x y h = rw (List·getD-eq-default idx 0 h, zero-div (2 ^ (7 - y % 8))) refl
 
 -- a bit that is 1 is read as true
 pub on-true : {idx : List ℕ} {x y : ℕ} → On idx x y → bitAt idx x y ≡ true

@@ -1,5 +1,6 @@
 pub mod Bytes
 pub mod Rows
+pub mod Joins
 pub mod Seeds
 pub mod Rounds
 pub mod Tidying

@@ -41,3 +41,9 @@ pub record Cleared (idx : List ℕ) (a k : ℕ) (idx′ : List ℕ) : Type 0 whe
   pub row : (j : ℕ) → j < k → getD idx′ (64 * a + j) 0 ≡ 0
   pub below : (i : ℕ) → i < 64 * a → getD idx′ i 0 ≡ getD idx i 0
   pub above : (i : ℕ) → 64 * a + k ≤ i → getD idx′ i 0 ≡ getD idx i 0
+
+-- row x is added to a row that stands by itself, in its first k bytes; every other byte stays
+pub record RowJoined (idx : List ℕ) (x k : ℕ) (row row′ : List ℕ) : Type 0 where
+  pub size : length row′ ≡ length row
+  pub done : (j : ℕ) → j < k → getD row′ j 0 ≡ both (getD row j 0) (getD idx (64 * x + j) 0)
+  pub rest : (j : ℕ) → k ≤ j → getD row′ j 0 ≡ getD row j 0

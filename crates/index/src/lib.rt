@@ -8,7 +8,7 @@ ghost use Rattle.model.specs.Calls.{build as building, isIndex};
 ghost use Rattle.table.specs.Layout.{assignmentCount};
 ghost use Rattle.table.specs.View.{policyOf, memory};
 ghost use Rattle.table.specs.Facts.{Table};
-ghost use Rattle.index.specs.Rows.{Joined, Added, Cleared};
+ghost use Rattle.index.specs.Rows.{Joined, Added, Cleared, RowJoined};
 ghost use Rattle.index.specs.Passes.{Seed, Good, Stepped, Climbed, Passed, Rounded, Full, RowTidied, Tidied};
 ghost use Rattle.index.specs.Answers.{left, matched};
 
@@ -33,15 +33,30 @@ fn join(x: u8, y: u8) -> u8
     x | y
 }
 
-// The bit of x and y.
+// The bit of x and y: 0 where the bytes do not reach.
 pub fn bit(idx: &[u8], x: u32, y: u32) -> bool
-    requires { ⌜ length (now idx) ≡ 32768 ⌝ }
-    requires { ⌜ x < 512 ⌝ }
-    requires { ⌜ y < 512 ⌝ }
     ensures { λ r. ⌜ r ≡ bitAt (now (idx .entry)) x y ⌝ }
 {
-    let byte = idx[64 * (x as usize) + (y / 8) as usize];
+    let place = 64 * (x as usize) + (y / 8) as usize;
+    if idx.len() <= place {
+        return false;
+    }
+    let byte = idx[place];
     (byte >> (7 - y % 8)) % 2 == 1
+}
+
+// Adds the bits of row x of an index to the lent row of 64 bytes.
+pub fn join_row(idx: &[u8], x: u32, row: &mut [u8])
+    requires { ⌜ length (now idx) ≡ 32768 ⌝ }
+    requires { ⌜ x < 512 ⌝ }
+    requires { ⌜ length (now row) ≡ 64 ⌝ }
+    ensures { λ _. ⌜ RowJoined (now (idx .entry)) x 64 (now (row .entry)) (now (row .exit)) ⌝ }
+{
+    let mut k = 0;
+    while k < 64 {
+        row[k] = join(row[k], idx[64 * (x as usize) + k]);
+        k += 1;
+    }
 }
 
 // Adds row b to row a, and returns by how much the sum of the bytes grew.

@@ -1,5 +1,7 @@
 //! Prints what the second program answers: `desk` as the desk program does, `house` the cases K1 to K12,
-//! `leaves` as the program `try_leaves` does, `leaves-script` the script that is stored for it.
+//! `leaves` as the program `try_leaves` does, `leaves-script` the script that is stored for it; `decisions` and
+//! `decisions-script` are those of the program `try_decide`, and `bench-script` makes a script that asks one request many
+//! times.
 
 use std::io::{self, Read, Write};
 use std::process::ExitCode;
@@ -9,10 +11,14 @@ fn main() -> ExitCode {
     let printed = match arguments.iter().map(String::as_str).collect::<Vec<_>>()[..] {
         ["desk"] => desk(),
         ["house"] => house(),
-        ["leaves"] => leaves(),
-        ["leaves-script"] => io::stdout().write_all(&second::leaves_script()).map(|()| true),
+        ["leaves"] => answer(second::leaves),
+        ["leaves-script"] => print(&second::leaves_script()),
+        ["decisions"] => answer(second::decisions),
+        ["decisions-script"] => print(&second::decisions_script()),
+        ["bench-script", table, answer, way, times] => bench_script(table, answer, way, times),
         _ => {
-            eprintln!("usage: second-run desk < input | second-run house | second-run leaves < script | second-run leaves-script");
+            eprintln!("usage: second-run desk < input | house | leaves < script | leaves-script | decisions < script");
+            eprintln!("       | decisions-script | bench-script TABLE granted|denied plain|indexed TIMES");
             return ExitCode::from(2);
         }
     };
@@ -33,11 +39,23 @@ fn desk() -> io::Result<bool> {
     Ok(true)
 }
 
-fn leaves() -> io::Result<bool> {
+fn print(bytes: &[u8]) -> io::Result<bool> {
+    io::stdout().write_all(bytes)?;
+    Ok(true)
+}
+
+/// What a program answers to the script on standard input.
+fn answer(program: impl Fn(&[u8]) -> String) -> io::Result<bool> {
     let mut script = Vec::new();
     io::stdin().read_to_end(&mut script)?;
-    io::stdout().write_all(second::leaves(&script).as_bytes())?;
-    Ok(true)
+    print(program(&script).as_bytes())
+}
+
+fn bench_script(table: &str, answer: &str, way: &str, times: &str) -> io::Result<bool> {
+    let wrong = |what: String| io::Error::new(io::ErrorKind::InvalidInput, what);
+    let times = times.parse().map_err(|_| wrong(format!("{times} is no number")))?;
+    let script = second::bench_script(table, answer == "granted", way == "indexed", times);
+    print(&script.ok_or_else(|| wrong(format!("{table} is none of {:?}", second::bench::TABLES)))?)
 }
 
 fn house() -> io::Result<bool> {

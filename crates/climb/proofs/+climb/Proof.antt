@@ -3,7 +3,7 @@ use borrow.Author.Needs.{needs}
 use Prim.Native.Nat.{ℕ, _<_, _-_}
 use borrow.Fn.Kinds.{In}
 use borrow.Fn.PlainCycle.{Measures, is, falls, and}
-use Rattle.climb.proofs.Steps.{front-done, head-small, front-next, front-back}
+use Rattle.climb.proofs.Steps.{climb-done, head-small, front-next, climb-back}
 use Rattle.climb.proofs.climb.Reads as climb
 use Rattle.climb.proofs.climb.Kinds as climb-kinds
 use Rattle.climb.proofs.+climb.Lts-climb as climb-lts
@@ -21,6 +21,9 @@ abbrev climb-below : ℕ → In 3 climb-kinds.ps
 climb-below t = and 3 climb-kinds.ps (falls 3 climb-kinds.ps _<_ μ-climb t) climb.Pre
 
 module _ (t : ℕ) where
+  climb-returns : climb-lts.Need-returns (offer-containers-reads.Asked, offer-containers-reads.Learnt, climb-below t, climb.Post) (climb-at t) climb.Post
+  climb-returns c = search climb-done
+
   climb-mul-offer-containers : climb-lts.Need-mul-offer-containers (offer-containers-reads.Asked, offer-containers-reads.Learnt, climb-below t, climb.Post) (climb-at t) climb.Post
   climb-mul-offer-containers c = omega arith
 
@@ -37,20 +40,17 @@ module _ (t : ℕ) where
   climb-climb-requires c κs =
       (omega arith, (search needs, search front-next))
 
-  climb-returns : climb-lts.Need-returns (offer-containers-reads.Asked, offer-containers-reads.Learnt, climb-below t, climb.Post) (climb-at t) climb.Post
-  climb-returns c = search front-back
-
   climb-returns-2 : climb-lts.Need-returns-2 (offer-containers-reads.Asked, offer-containers-reads.Learnt, climb-below t, climb.Post) (climb-at t) climb.Post
-  climb-returns-2 c = search front-done
+  climb-returns-2 c = search climb-back
 
 pub +climb-spec : {M : Type 1} → statement M
 +climb-spec = close μ-climb λ t. climb-lts.spec (offer-containers-reads.Asked, offer-containers-reads.Learnt, climb-below t, climb.Post)
     (climb-at t)
     climb.Post
+    (climb-returns t)
     (climb-mul-offer-containers t)
     (climb-element-copy-out-offer-containers t)
     (climb-offer-containers-requires t)
     (climb-add-climb t)
     (climb-climb-requires t)
-    (climb-returns t)
     (climb-returns-2 t)

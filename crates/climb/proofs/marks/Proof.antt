@@ -1,21 +1,17 @@
 use borrow.Author.Needs.{needs}
-use Rattle.climb.proofs.Queue.{listed-none}
-use Rattle.climb.proofs.Steps.{front-first, first-back}
+use Rattle.climb.proofs.Queue.{closed-none}
+use Rattle.climb.proofs.Onward.{first-marks}
 use Rattle.climb.proofs.marks.Statement.{statement}
 use Rattle.climb.proofs.marks.Tie as tie
 use Rattle.climb.proofs.marks.Reads as reads
 use Rattle.climb.proofs.marks.Lts as lts
-use Rattle.climb.proofs.climb.Reads as climb-reads
-use Rattle.climb.proofs.offer.Reads as offer-reads
+use Rattle.climb.proofs.climb_on.Reads as climb-on-reads
 
-offer-requires : tie.Need-offer-requires
-offer-requires c κs = (search needs, listed-none)
-
-climb-requires : tie.Need-climb-requires
-climb-requires c κs = (search needs, search front-first)
+climb-on-requires : tie.Need-climb-on-requires
+climb-on-requires c κs = (search needs, (search needs, closed-none _))
 
 returns : tie.Need-returns
-returns c = search first-back
+returns c = search first-marks
 
 pub marks-spec : {M : Type 1} → statement M
-marks-spec = tie.close (tie.spec offer-requires climb-requires returns)
+marks-spec = tie.close (tie.spec climb-on-requires returns)

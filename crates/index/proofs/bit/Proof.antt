@@ -1,18 +1,21 @@
-use Rattle.index.proofs.Bytes.{bit-read}
+use Rattle.index.proofs.Bytes.{bit-read, bit-past}
 use borrow.Author.Needs.{needs}
 use Rattle.index.proofs.bit.Statement.{statement}
 use Rattle.index.proofs.bit.Tie as tie
 use Rattle.index.proofs.bit.Reads as reads
 use Rattle.index.proofs.bit.Lts as lts
 
-mul-byte : tie.Need-mul-byte
-mul-byte c = search needs
+mul-place : tie.Need-mul-place
+mul-place c = search needs
 
-cast-byte : tie.Need-cast-byte
-cast-byte c = search needs
+cast-place : tie.Need-cast-place
+cast-place c = search needs
 
-add-byte : tie.Need-add-byte
-add-byte c = search needs
+add-place : tie.Need-add-place
+add-place c = search needs
+
+returns : tie.Need-returns
+returns c = search bit-past
 
 shared-slice-read-byte : tie.Need-shared-slice-read-byte
 shared-slice-read-byte c = search needs
@@ -26,18 +29,19 @@ cast-result c = search needs
 shr-result : tie.Need-shr-result
 shr-result c = search needs
 
-returns : tie.Need-returns
-returns c = search bit-read
+returns-2 : tie.Need-returns-2
+returns-2 c = search bit-read
 
 pub bit-spec : {M : Type 1} → statement M
 bit-spec =
     tie.close
     (tie.spec
-    mul-byte
-    cast-byte
-    add-byte
+    mul-place
+    cast-place
+    add-place
+    returns
     shared-slice-read-byte
     sub-result
     cast-result
     shr-result
-    returns)
+    returns-2)

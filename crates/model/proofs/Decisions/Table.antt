@@ -11,14 +11,15 @@ use Rattle.model.specs.Lists.{In, first, later, allOf, empty, before, pr
 use Rattle.model.specs.Request.{Kinds, Operation, no-operation, operations, operationOf, Request, Alternative, Asked, asked, askedOf, argumentsOf, kindsOf, alternativesOf}
 use Rattle.model.proofs.Truth.{none-in, some-in, and-cut, all-in, in-map, in-left, in-right}
 
-all-at : {A : Type 0} (f : A → Bool) (l : List A) (n : ℕ) (d : A) → allOf f l ≡ true → f d ≡ true → f (getD l n d) ≡ true
+-- what is read from a list passes a test that all of it pass, and so does what is read where it ends
+pub all-at : {A : Type 0} (f : A → Bool) (l : List A) (n : ℕ) (d : A) → allOf f l ≡ true → f d ≡ true → f (getD l n d) ≡ true
 unfolding allOf
 all-at f [] n d e k = k
 all-at f (a ∷ l) zero d e k = and-cut (f a) (allOf f l) e .0
 all-at f (a ∷ l) (suc n) d e k = all-at f l n d (and-cut (f a) (allOf f l) e .1) k
 
 -- a test that each operation passes, no operation too
-each-operation : (f : Operation → Bool) → allOf f (no-operation ∷ operations) ≡ true → (n : ℕ) → f (operationOf n) ≡ true
+pub each-operation : (f : Operation → Bool) → allOf f (no-operation ∷ operations) ≡ true → (n : ℕ) → f (operationOf n) ≡ true
 unfolding operationOf allOf
 each-operation f e n = all-at f (no-operation ∷ operations) n no-operation e (and-cut (f no-operation) (allOf f operations) e .0)
 

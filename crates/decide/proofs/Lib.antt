@@ -1,0 +1,5 @@
+pub mod Allowed
+pub mod Sights
+pub mod Chosen
+pub mod Answered
+pub mod Theorems

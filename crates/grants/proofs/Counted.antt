@@ -1,0 +1,191 @@
+-- How many: the classes of an element, the rights of a set, the rows of a set and of an alternative.
+-- Assumes nothing.
+use mathlib.Core.Path.{_≡_, refl, sym, ap, ap₂, fun-ext, _∙_}
+use mathlib.Core.Bool.{Bool, true, false}
+use mathlib.Core.List.{List, [], _∷_, _++_}
+use Prim.Native.Nat.{ℕ, _+_, _*_, _≤_}
+use native.Mathlib.Nat.{add-comm, mul-le-mul-right, suc-mul}
+use native.Mathlib.Numerals.{add-one}
+use native.Mathlib.Omega.{arith}
+use mir.Syntax.{w64}
+use mir.Val.{Fits}
+use mir.Facts.{fits-le, fits-lit}
+use lib.ListN.{length, getD, length-append, length-map}
+use Rattle.model.specs.Lists.{those, one, tabulate}
+use Rattle.model.specs.Policy.{Policy, hasRight}
+use Rattle.model.specs.Bits.{digit}
+use Rattle.model.specs.Contain.{contained}
+use Rattle.model.specs.Rule.{classesOf}
+use Rattle.model.specs.Explain.{joined}
+use Rattle.table.specs.View.{policyOf}
+use Rattle.table.specs.Facts.{AtMost}
+use Rattle.request.specs.Sets.{rightsIn}
+use Rattle.request.specs.declared.Request.{Request}
+use Rattle.rule.specs.Sight.{seen}
+use Rattle.rule.specs.Parts.{classOf}
+use Rattle.rule.specs.declared.Asking.{Asking}
+use Rattle.held.specs.Lacking.{sight, Rows}
+use Rattle.decide.specs.Asks.{askingOf, withRight, AllRows}
+use Rattle.grants.specs.Numbers.{classNumbers, rightNumbers, setNumbers, grantNumbers}
+use Rattle.grants.proofs.Below.{those-last, classes-below, no-class}
+
+-- a test as a number
+module _ {b : Bool} where
+  -- it passes
+  pub one-for : b ≡ true → AtMost (digit b) 1 1
+  unfolding digit
+  one-for h = rw h (record { is = refl; few = omega arith })
+
+  -- it does not
+  pub none-for : b ≡ false → AtMost (digit b) 1 0
+  unfolding digit
+  none-for h = rw h (record { is = refl; few = omega arith })
+
+-- n is how many numbers below c pass the test; those below `from` do not
+pub record CountedBelow (t : ℕ → Bool) (from c n : ℕ) : Type 0 where
+  pub is : n ≡ length (those t (tabulate c (λ i. i)))
+  pub few : n + from ≤ c
+
+-- one more
+module _ (t : ℕ → Bool) (from : ℕ) {c n : ℕ} (k : CountedBelow t from c n) {b : Bool} (e : b ≡ t c) {d : ℕ} (o : AtMost (digit b) 1 d) where
+  counted-more : CountedBelow t from (c + 1) (n + d)
+  unfolding those digit
+  counted-more = record {
+    is = rw (add-one c, those-last t c, length-append (those t (tabulate c (λ i. i))) (those t (one c)))
+        (ap₂ _+_ (k .is) (o .is ∙ ap digit e ∙ last (t c)));
+    few = omega (arith, k .few, o .few);
+  }
+    where
+      last : (s : Bool) → digit s ≡ length (those (λ (x : ℕ). s) (one c))
+      last true = refl
+      last false = refl
+
+-- The classes of an element.
+module _ {mem rows : List ℕ} {q : Asking} (w : Rows mem rows false q) where
+  -- rows that say what is meant say what the element is within
+  pub rows-same : seen rows false (q .over) ≡ contained (policyOf mem) (q .element)
+  unfolding sight
+  rows-same = fun-ext (w .element)
+
+  -- all are counted
+  pub classes-end : {c n : ℕ} → c ≤ 512 → 512 ≤ c → CountedBelow (classOf (seen rows false (q .over)) (policyOf mem)) 1 c n
+      → AtMost (length (classesOf (contained (policyOf mem) (q .element)) (policyOf mem))) 511 n
+  classes-end {c} l h k =
+      let e : c ≡ 512 = omega arith in
+      record {
+        is = k .is
+            ∙ ap (λ (i : ℕ). length (those (classOf (seen rows false (q .over)) (policyOf mem)) (tabulate i (λ j. j)))) e
+            ∙ ap length (sym (classes-below (seen rows false (q .over)) mem))
+            ∙ ap (λ (E : ℕ → Bool). length (classesOf E (policyOf mem))) rows-same;
+        few = omega (arith, k .few);
+      }
+
+module _ (E : ℕ → Bool) (mem : List ℕ) where
+  -- none is below 1
+  pub classes-start : CountedBelow (classOf E (policyOf mem)) 1 1 0
+  classes-start = record { is = ap length (sym (no-class E mem)); few = omega arith }
+
+  -- one more number is counted or not
+  pub classes-more : {c n : ℕ} → CountedBelow (classOf E (policyOf mem)) 1 c n → {b : Bool} → b ≡ classOf E (policyOf mem) c → {d : ℕ} → AtMost (digit b) 1 d
+      → CountedBelow (classOf E (policyOf mem)) 1 (c + 1) (n + d)
+  classes-more k e o = counted-more (classOf E (policyOf mem)) 1 k e o
+
+-- The rights of a set.
+module _ (rights : ℕ) where
+  -- none is below 0
+  pub rights-start : CountedBelow (hasRight rights) 0 0 0
+  unfolding those tabulate
+  rights-start = record { is = refl; few = omega arith }
+
+  -- one more is counted or not
+  pub rights-more : {r n : ℕ} → CountedBelow (hasRight rights) 0 r n → {b : Bool} → b ≡ hasRight rights r → {d : ℕ} → AtMost (digit b) 1 d
+      → CountedBelow (hasRight rights) 0 (r + 1) (n + d)
+  rights-more k e o = counted-more (hasRight rights) 0 k e o
+
+  -- all are counted
+  pub rights-end : {r n : ℕ} → r ≤ 32 → 32 ≤ r → CountedBelow (hasRight rights) 0 r n → AtMost (length (rightsIn rights)) 32 n
+  unfolding rightsIn
+  rights-end {r} l h k =
+      let e : r ≡ 32 = omega arith in
+      record { is = k .is ∙ ap (λ (i : ℕ). length (those (hasRight rights) (tabulate i (λ j. j)))) e; few = omega (arith, k .few) }
+
+-- parts of n rows each, joined
+joined-length : {A B : Type 0} (f : A → List B) (n : ℕ) → ((a : A) → length (f a) ≡ n) → (l : List A) → length (joined f l) ≡ length l * n
+unfolding joined
+joined-length f n h [] = omega arith
+joined-length f n h (a ∷ l) = length-append (f a) (joined f l) ∙ ap₂ _+_ (h a) (joined-length f n h l) ∙ add-comm n (length l * n) ∙ sym (suc-mul (length l) n)
+
+-- a set has as many rows as it has rights times the classes of the element, whatever the alternative and the position
+pub set-length : (p : Policy) (q : Asking) (rights alternative k : ℕ)
+    → length (setNumbers p q rights alternative k) ≡ length (rightsIn rights) * length (classesOf (contained p (q .element)) p)
+unfolding setNumbers rightNumbers
+set-length p q rights alternative k =
+    joined-length (λ r. rightNumbers p (withRight q r) alternative k) (length (classesOf (contained p (q .element)) p))
+    (λ r. length-map (classesOf (contained p (q .element)) p) (classNumbers p (withRight q r) alternative k)) (rightsIn rights)
+
+-- at most 32 times at most 511
+product-few : {a b n m : ℕ} → AtMost n 32 a → AtMost m 511 b → a * b ≤ 16352
+product-few {a} {b} x y = omega (arith, mul-le-mul-right b (x .few), y .few)
+
+-- so the product is no greater than a number can be
+pub product-fits : {a b n m : ℕ} → AtMost n 32 a → AtMost m 511 b → Fits w64 (a * b)
+product-fits x y = fits-le (product-few x y) (fits-lit tt)
+
+-- the rows of a set are counted
+pub set-counted : (p : Policy) (q : Asking) (rights : ℕ) {a b : ℕ} → AtMost (length (rightsIn rights)) 32 a
+    → AtMost (length (classesOf (contained p (q .element)) p)) 511 b → AtMost (length (setNumbers p q rights 0 0)) 16352 (a * b)
+set-counted p q rights x y = record { is = ap₂ _*_ (x .is) (y .is) ∙ sym (set-length p q rights 0 0); few = product-few x y }
+
+-- the rows of a set, elsewhere
+set-alike : (p : Policy) (q : Asking) (rights alternative k alternative′ k′ : ℕ)
+    → length (setNumbers p q rights alternative k) ≡ length (setNumbers p q rights alternative′ k′)
+set-alike p q rights alternative k alternative′ k′ = set-length p q rights alternative k ∙ sym (set-length p q rights alternative′ k′)
+
+-- the rows of an alternative are those of its sets
+pub grant-length : (p : Policy) (q : Request) (user alternative : ℕ) (sets : List ℕ)
+    → length (grantNumbers p q user alternative sets)
+    ≡ length (setNumbers p (askingOf q user false (q .first) 1 0) (getD sets 0 0) 0 0)
+    + (length (setNumbers p (askingOf q user false (q .second) 2 0) (getD sets 1 0) 0 0)
+    + length (setNumbers p (askingOf q user false (q .third) 3 0) (getD sets 2 0) 0 0))
+unfolding grantNumbers
+grant-length p q user alternative sets =
+    let a : List (List ℕ) = setNumbers p (askingOf q user false (q .first) 1 0) (getD sets 0 0) alternative 1 in
+    let b : List (List ℕ) = setNumbers p (askingOf q user false (q .second) 2 0) (getD sets 1 0) alternative 2 in
+    let c : List (List ℕ) = setNumbers p (askingOf q user false (q .third) 3 0) (getD sets 2 0) alternative 3 in
+    length-append a (b ++ c)
+    ∙ ap₂ _+_ (set-alike p (askingOf q user false (q .first) 1 0) (getD sets 0 0) alternative 1 0 0)
+    (length-append b c
+    ∙ ap₂ _+_ (set-alike p (askingOf q user false (q .second) 2 0) (getD sets 1 0) alternative 2 0 0)
+    (set-alike p (askingOf q user false (q .third) 3 0) (getD sets 2 0) alternative 3 0 0))
+
+-- whatever its number
+pub grant-length-alike : (p : Policy) (q : Request) (user alternative : ℕ) (sets : List ℕ)
+    → length (grantNumbers p q user alternative sets) ≡ length (grantNumbers p q user 0 sets)
+grant-length-alike p q user alternative sets = grant-length p q user alternative sets ∙ sym (grant-length p q user 0 sets)
+
+-- What is asked over each argument, as the code makes it.
+module _ {mem rows : List ℕ} {q : Request} {user : ℕ} (w : AllRows mem rows false q user) {x : Asking} where
+  -- the rows say what is meant of the first
+  pub rows-first : x ≡ askingOf q user false (q .first) 1 0 → Rows mem rows false x
+  rows-first e = rw e (w .first)
+
+  -- of the second
+  pub rows-second : x ≡ askingOf q user false (q .second) 2 0 → Rows mem rows false x
+  rows-second e = rw e (w .second)
+
+  -- of the third
+  pub rows-third : x ≡ askingOf q user false (q .third) 3 0 → Rows mem rows false x
+  rows-third e = rw e (w .third)
+
+-- the rows of an alternative are counted, argument by argument
+pub grant-counted : (p : Policy) (q : Request) (user : ℕ) (sets : List ℕ) {x y z : Asking} {a b c : ℕ}
+    → x ≡ askingOf q user false (q .first) 1 0 → AtMost (length (setNumbers p x (getD sets 0 0) 0 0)) 16352 a
+    → y ≡ askingOf q user false (q .second) 2 0 → AtMost (length (setNumbers p y (getD sets 1 0) 0 0)) 16352 b
+    → z ≡ askingOf q user false (q .third) 3 0 → AtMost (length (setNumbers p z (getD sets 2 0) 0 0)) 16352 c
+    → AtMost (length (grantNumbers p q user 0 sets)) 49056 (a + b + c)
+grant-counted p q user sets ex ka ey kb ez kc =
+    let l = grant-length p q user 0 sets in
+    let i = ka .is ∙ ap (λ (t : Asking). length (setNumbers p t (getD sets 0 0) 0 0)) ex in
+    let j = kb .is ∙ ap (λ (t : Asking). length (setNumbers p t (getD sets 1 0) 0 0)) ey in
+    let k = kc .is ∙ ap (λ (t : Asking). length (setNumbers p t (getD sets 2 0) 0 0)) ez in
+    record { is = omega (arith, l, i, j, k); few = omega (arith, ka .few, kb .few, kc .few) }

@@ -1,0 +1,211 @@
+-- The rows that are written: of a class, of a right, of a set, of an alternative.
+-- Assumes nothing.
+use mathlib.Core.Path.{_≡_, refl, sym, ap, subst, _∙_}
+use mathlib.Core.Bool.{Bool, true, false, not}
+use mathlib.Core.List.{List, [], _∷_, _++_, map}
+use Prim.Native.Nat.{ℕ, suc, _+_, _-_, _≤_, _<_}
+use native.Mathlib.Omega.{arith}
+use borrow.Author.Tests.{not-true, not-false}
+use lib.ListN.{length, getD, set, length-append}
+use Rattle.model.specs.Lists.{one}
+use Rattle.model.specs.Policy.{Policy, hasRight}
+use Rattle.model.specs.Contain.{contained}
+use Rattle.table.specs.Layout.{associationCount}
+use Rattle.table.specs.View.{associationsOf, associationAt, policyOf}
+use Rattle.request.specs.Sets.{rightsIn}
+use Rattle.request.specs.declared.Request.{Request}
+use Rattle.rule.specs.Sight.{seen}
+use Rattle.rule.specs.Parts.{classOf}
+use Rattle.rule.specs.declared.Asking.{Asking}
+use Rattle.held.specs.Lacking.{Rows}
+use Rattle.decide.specs.Asks.{askingOf, withRight}
+use Rattle.lowest.specs.Named.{named, LowestOfFirst}
+use Rattle.grants.specs.Numbers.{lowestIn, classNumbers, namedNumbers, classRows, rightNumbers, ifRows, setNumbers, grantNumbers}
+use Rattle.grants.specs.Put.{Put}
+use Rattle.grants.proofs.Below.{below, joined-below, map-joined, classes-below, zero-other}
+use Rattle.grants.proofs.Placed.{put-none, put-one, put-then, put-start, put-more, put-room, put-end}
+use Rattle.grants.proofs.Counted.{rows-same}
+
+-- The row with a named association.
+module _ (mem : List ℕ) (name : ℕ) (q : Asking) (alternative k c : ℕ) where
+  -- none is named
+  pub named-none : name ≡ 0 → alternative ∷ k ∷ q .right ∷ 0 ∷ c ∷ 0 ∷ 0 ∷ 0 ∷ [] ≡ namedNumbers mem name q alternative k c
+  named-none h = rw h
+
+  -- one is named
+  pub named-some : (name ≡ 0 → ⊥) → {x y z : ℕ} → x ≡ associationAt mem (name - 1) .attribute → y ≡ associationAt mem (name - 1) .target
+      → z ≡ associationAt mem (name - 1) .rights → alternative ∷ k ∷ q .right ∷ 0 ∷ c ∷ x ∷ y ∷ z ∷ [] ≡ namedNumbers mem name q alternative k c
+  named-some d ex ey ez = let e : name ≡ suc (name - 1) = omega arith in rw (ex, ey, ez) (subst (λ (n : ℕ). alternative ∷ k ∷ q .right ∷ 0 ∷ c ∷ associationAt mem (name - 1) .attribute ∷ associationAt mem (name - 1) .target ∷ associationAt mem (name - 1) .rights ∷ [] ≡ namedNumbers mem n q alternative k c) (sym e) refl)
+
+-- The row of a class.
+module _ {mem rows : List ℕ} {q : Asking} (w : Rows mem rows false q) (alternative k c : ℕ) {b : Bool} (is : b ≡ classOf (seen rows false (q .over)) (policyOf mem) c) where
+  -- the test is whether it is a class that the element is within
+  its-class : b ≡ classOf (contained (policyOf mem) (q .element)) (policyOf mem) c
+  its-class = is ∙ ap (λ (E : ℕ → Bool). classOf E (policyOf mem) c) (rows-same w)
+
+  -- it is not: no row
+  pub class-none : not b ≡ true → (out : List (List ℕ)) (at : ℕ) → Put out at (classRows (policyOf mem) q alternative k c) out at
+  unfolding classRows
+  class-none h out at = rw (← its-class, not-true b h) (put-none out at)
+
+  module _ (h : not b ≡ false) where
+    -- it is: the row has room
+    pub class-room : {at : ℕ} (out : List (List ℕ)) → at + length (classRows (policyOf mem) q alternative k c) ≤ length out → at < length out
+    unfolding classRows
+    class-room {at} out l = omega (arith, rw (← its-class, not-false b h) at l)
+
+    -- and is written
+    pub class-one : (name : ℕ) → named mem name ≡ lowestIn (policyOf mem) q c → {x : List ℕ} → x ≡ namedNumbers mem name q alternative k c
+        → (out : List (List ℕ)) (at : ℕ) → Put out at (classRows (policyOf mem) q alternative k c) (set out at x) (at + 1)
+    unfolding classRows classNumbers
+    class-one name n e out at = rw (← its-class, not-false b h, ← n, ← e) (put-one out at _)
+
+-- What each class names.
+module _ {mem : List ℕ} {q : Asking} {names : List ℕ} (l : LowestOfFirst mem q (associationCount mem) names) (c : ℕ) (h : c < 512) where
+  -- is an association of the table, or none
+  pub name-few : getD names c 0 ≤ associationCount mem
+  name-few = l .few c h
+
+  -- and the lowest that authorizes the right in the class
+  pub name-lowest : named mem (getD names c 0) ≡ lowestIn (policyOf mem) q c
+  unfolding lowestIn policyOf associationsOf
+  name-lowest = l .is c h
+
+-- The rows of a right, class by class.
+module _ (mem : List ℕ) (q : Asking) (alternative k : ℕ) where
+  -- they are those of the classes below 512
+  right-below : rightNumbers (policyOf mem) q alternative k ≡ below (classRows (policyOf mem) q alternative k) 512
+  unfolding rightNumbers classRows
+  right-below =
+      ap (map (classNumbers (policyOf mem) q alternative k)) (classes-below (contained (policyOf mem) (q .element)) mem)
+      ∙ map-joined (classNumbers (policyOf mem) q alternative k) _
+      ∙ joined-below (λ c. one (classNumbers (policyOf mem) q alternative k c)) (classRows (policyOf mem) q alternative k)
+      (classOf (contained (policyOf mem) (q .element)) (policyOf mem)) (λ c. refl) 512
+
+  -- none is written before class 1
+  pub right-start : (out : List (List ℕ)) (at : ℕ) → Put out at (below (classRows (policyOf mem) q alternative k) 1) out at
+  unfolding below classRows
+  right-start out at = rw (zero-other (contained (policyOf mem) (q .element)) mem) (put-none out at)
+
+  module _ {c : ℕ} (l : c < 512) {out out₁ : List (List ℕ)} {at t : ℕ} (p : Put out at (below (classRows (policyOf mem) q alternative k) c) out₁ t) where
+    -- the row of the next class has room
+    pub right-room : at + length (rightNumbers (policyOf mem) q alternative k) ≤ length out → t + length (classRows (policyOf mem) q alternative k c) ≤ length out₁
+    right-room h = put-room (classRows (policyOf mem) q alternative k) 512 c l (rw right-below at h) p
+
+    -- and is written
+    pub right-more : {out₂ : List (List ℕ)} {s : ℕ} → Put out₁ t (classRows (policyOf mem) q alternative k c) out₂ s
+        → Put out at (below (classRows (policyOf mem) q alternative k) (c + 1)) out₂ s
+    right-more r = put-more (classRows (policyOf mem) q alternative k) c p r
+
+  -- all are written
+  pub right-end : {c : ℕ} → c ≤ 512 → 512 ≤ c → {out out₁ : List (List ℕ)} {at t : ℕ} → Put out at (below (classRows (policyOf mem) q alternative k) c) out₁ t
+      → Put out at (rightNumbers (policyOf mem) q alternative k) out₁ t
+  right-end {c} l h p = rw right-below (put-end (classRows (policyOf mem) q alternative k) 512 c l h p)
+
+-- The rows of one right of a set.
+module _ (p : Policy) (q : Asking) (rights alternative k r : ℕ) {b : Bool} (is : b ≡ hasRight rights r) where
+  -- it is not in the set: no row
+  pub if-none : not b ≡ true → (out : List (List ℕ)) (at : ℕ) → Put out at (ifRows p q rights alternative k r) out at
+  unfolding ifRows
+  if-none h out at = rw (← is, not-true b h) (put-none out at)
+
+  module _ (h : not b ≡ false) {s : Asking} (e : s ≡ withRight q r) where
+    -- it is: its rows
+    if-rows : ifRows p q rights alternative k r ≡ rightNumbers p s alternative k
+    unfolding ifRows
+    if-rows = rw (← is, not-false b h, e)
+
+    -- have room
+    pub if-room : (out : List (List ℕ)) (at : ℕ) → at + length (ifRows p q rights alternative k r) ≤ length out → at + length (rightNumbers p s alternative k) ≤ length out
+    if-room out at l = rw if-rows at l
+
+    -- and are written
+    pub if-all : {out out₁ : List (List ℕ)} {at t : ℕ} → Put out at (rightNumbers p s alternative k) out₁ t → Put out at (ifRows p q rights alternative k r) out₁ t
+    if-all w = rw if-rows w
+
+-- the rows say of the element what they said, whatever the right
+pub rows-right : {mem rows : List ℕ} {q : Asking} {r : ℕ} {s : Asking} → Rows mem rows false q → s ≡ withRight q r → Rows mem rows false s
+rows-right w e = rw e (record { whole = w .whole; user = w .user; element = w .element })
+
+-- a right below 32
+pub right-small : (q : Asking) {r : ℕ} {s : Asking} → s ≡ withRight q r → r < 32 → s .right < 32
+right-small q e l = rw e l
+
+-- The rows of a set, right by right.
+module _ (p : Policy) (q : Asking) (rights alternative k : ℕ) where
+  -- they are those of the rights below 32
+  set-below : setNumbers p q rights alternative k ≡ below (ifRows p q rights alternative k) 32
+  unfolding setNumbers rightsIn ifRows
+  set-below = joined-below (λ r. rightNumbers p (withRight q r) alternative k) (ifRows p q rights alternative k) (hasRight rights) (λ r. refl) 32
+
+  -- none is written at first
+  pub set-start : (out : List (List ℕ)) (at : ℕ) → Put out at (below (ifRows p q rights alternative k) 0) out at
+  set-start out at = put-start (ifRows p q rights alternative k) out at
+
+  module _ {r : ℕ} (l : r < 32) {out out₁ : List (List ℕ)} {at t : ℕ} (w : Put out at (below (ifRows p q rights alternative k) r) out₁ t) where
+    -- the rows of the next right have room
+    pub set-room : at + length (setNumbers p q rights alternative k) ≤ length out → t + length (ifRows p q rights alternative k r) ≤ length out₁
+    set-room h = put-room (ifRows p q rights alternative k) 32 r l (rw set-below at h) w
+
+    -- and are written
+    pub set-more : {out₂ : List (List ℕ)} {s : ℕ} → Put out₁ t (ifRows p q rights alternative k r) out₂ s
+        → Put out at (below (ifRows p q rights alternative k) (r + 1)) out₂ s
+    set-more v = put-more (ifRows p q rights alternative k) r w v
+
+  -- all are written
+  pub set-end : {r : ℕ} → r ≤ 32 → 32 ≤ r → {out out₁ : List (List ℕ)} {at t : ℕ} → Put out at (below (ifRows p q rights alternative k) r) out₁ t
+      → Put out at (setNumbers p q rights alternative k) out₁ t
+  set-end {r} l h w = rw set-below (put-end (ifRows p q rights alternative k) 32 r l h w)
+
+-- The rows of a set over what is asked, as the code makes it.
+module _ {x y : Asking} (e : x ≡ y) where
+  -- the rows say what is meant
+  pub rows-asked : {mem rows : List ℕ} → Rows mem rows false y → Rows mem rows false x
+  rows-asked w = rw e w
+
+  module _ (p : Policy) (rights alternative k : ℕ) where
+    -- its rows have room
+    pub asked-room : (at : ℕ) (out : List (List ℕ)) → at + length (setNumbers p y rights alternative k) ≤ length out → at + length (setNumbers p x rights alternative k) ≤ length out
+    asked-room at out h = rw e h
+
+    -- and are written
+    pub asked-all : {out out₁ : List (List ℕ)} {at t : ℕ} → Put out at (setNumbers p x rights alternative k) out₁ t → Put out at (setNumbers p y rights alternative k) out₁ t
+    asked-all w = rw e at w
+
+-- The rows of an alternative, argument by argument.
+module _ (p : Policy) (q : Request) (user alternative : ℕ) (sets : List ℕ) where
+  -- those of one argument
+  abbrev argumentRows : (e k rights : ℕ) → List (List ℕ)
+  argumentRows e k rights = setNumbers p (askingOf q user false e k 0) rights alternative k
+
+  -- how many they are
+  parts-length : length (grantNumbers p q user alternative sets)
+      ≡ length (argumentRows (q .first) 1 (getD sets 0 0)) + (length (argumentRows (q .second) 2 (getD sets 1 0)) + length (argumentRows (q .third) 3 (getD sets 2 0)))
+  unfolding grantNumbers
+  parts-length =
+      let b : List (List ℕ) = argumentRows (q .second) 2 (getD sets 1 0) in
+      let c : List (List ℕ) = argumentRows (q .third) 3 (getD sets 2 0) in
+      length-append (argumentRows (q .first) 1 (getD sets 0 0)) (b ++ c) ∙ ap (λ (n : ℕ). length (argumentRows (q .first) 1 (getD sets 0 0)) + n) (length-append b c)
+
+  -- the rows of the first argument have room
+  pub grant-room : (out : List (List ℕ)) → length (grantNumbers p q user alternative sets) ≤ length out
+      → 0 + length (setNumbers p (askingOf q user false (q .first) 1 0) (getD sets 0 0) alternative 1) ≤ length out
+  grant-room out h = omega (arith, h, parts-length)
+
+  module _ {out out₁ : List (List ℕ)} {s : ℕ} (v : Put out 0 (setNumbers p (askingOf q user false (q .first) 1 0) (getD sets 0 0) alternative 1) out₁ s) where
+    -- so have those of the second
+    pub grant-room-second : length (grantNumbers p q user alternative sets) ≤ length out
+        → s + length (setNumbers p (askingOf q user false (q .second) 2 0) (getD sets 1 0) alternative 2) ≤ length out₁
+    grant-room-second h = omega (arith, h, parts-length, v .next, v .size)
+
+    module _ {out₂ : List (List ℕ)} {t : ℕ} (w : Put out₁ s (setNumbers p (askingOf q user false (q .second) 2 0) (getD sets 1 0) alternative 2) out₂ t) where
+      -- and those of the third
+      pub grant-room-third : length (grantNumbers p q user alternative sets) ≤ length out
+          → t + length (setNumbers p (askingOf q user false (q .third) 3 0) (getD sets 2 0) alternative 3) ≤ length out₂
+      grant-room-third h = omega (arith, h, parts-length, v .next, v .size, w .next, w .size)
+
+      -- all are written
+      pub grant-all : {out₃ : List (List ℕ)} {r : ℕ} → Put out₂ t (setNumbers p (askingOf q user false (q .third) 3 0) (getD sets 2 0) alternative 3) out₃ r
+          → Put out 0 (grantNumbers p q user alternative sets) out₃ r
+      unfolding grantNumbers
+      grant-all z = put-then v (put-then w z)

@@ -1,0 +1,64 @@
+use Prim.Native.Nat.{_≤_, _-_}
+use borrow.Author.Needs.{needs}
+use Rattle.model.specs.Policy.{hasRight}
+use Rattle.grants.proofs.Counted.{CountedBelow, rights-start, rights-more, rights-end}
+use native.Mathlib.Omega.{arith}
+use Rattle.grants.proofs.count_rights.Statement.{statement}
+use Rattle.grants.proofs.count_rights.Tie as tie
+use Rattle.grants.proofs.count_rights.Reads as reads
+use Rattle.grants.proofs.count_rights.Lts as lts
+use Rattle.grants.proofs.one_if.Reads as one-if-reads
+use Rattle.rule.proofs.has_right.Reads as has-right-reads
+
+abbrev Inv-loop : tie.InvT-loop
+Inv-loop rights n₀ r₀ n r = (r ≤ 32) × CountedBelow (hasRight rights) 0 r n
+
+abbrev μ-loop : tie.MeasureT-loop
+μ-loop rights n₀ r₀ n r = 32 - r
+
+-- src/lib.rt:52:5
+loop-holds : tie.Need-loop-holds Inv-loop μ-loop
+loop-holds c = (omega arith, search rights-start)
+
+-- src/lib.rt:53:21
+has-right-requires : tie.Need-has-right-requires Inv-loop μ-loop
+has-right-requires c κs = omega arith
+
+-- src/lib.rt:53:14
+one-if-requires : tie.Need-one-if-requires Inv-loop μ-loop
+one-if-requires c κs = search needs
+
+-- src/lib.rt:53:9
+add-n : tie.Need-add-n Inv-loop μ-loop
+add-n c = omega arith
+
+-- src/lib.rt:54:9
+add-r : tie.Need-add-r Inv-loop μ-loop
+add-r c = omega arith
+
+-- src/lib.rt:52:5
+loop-less : tie.Need-loop-less Inv-loop μ-loop
+loop-less c = omega arith
+
+-- src/lib.rt:52:5
+loop-again : tie.Need-loop-again Inv-loop μ-loop
+loop-again c = (omega arith, search rights-more)
+
+-- src/lib.rt:47:1
+returns : tie.Need-returns Inv-loop μ-loop
+returns c = search rights-end
+
+pub count-rights-spec : {M : Type 1} → statement M
+count-rights-spec =
+    tie.close
+    (tie.spec
+    Inv-loop
+    μ-loop
+    loop-holds
+    has-right-requires
+    one-if-requires
+    add-n
+    add-r
+    loop-less
+    loop-again
+    returns)

@@ -1,0 +1,4 @@
+pub mod Classes
+pub mod Associations
+pub mod Turns
+pub mod Sighted

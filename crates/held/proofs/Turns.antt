@@ -1,0 +1,201 @@
+-- The turns of the loop over the classes: a class that the element is not within, one in which the right is given, the first that lacks it.
+-- Assumes nothing.
+use mathlib.Core.Path.{_≡_, sym, ap, subst, _∙_}
+use mathlib.Core.Bool.{Bool, true, false, not}
+use mathlib.Core.List.{List}
+use Prim.Native.Nat.{ℕ, _+_, _≤_, _<_}
+use native.Mathlib.Omega.{arith}
+use native.Mathlib.Decide.{decLt}
+use borrow.Author.Tests.{not-true, not-false}
+use lib.ListN.{getD, replicate}
+use Rattle.model.specs.Lists.{In}
+use Rattle.model.specs.Contain.{contained}
+use Rattle.model.specs.Index.{bitAt}
+use Rattle.model.specs.Rule.{classesOf, givenIn}
+use Rattle.model.proofs.Truth.{clash}
+use Rattle.table.specs.Layout.{associationCount}
+use Rattle.table.specs.View.{policyOf}
+use Rattle.rule.specs.Sight.{seen}
+use Rattle.rule.specs.Parts.{classOf}
+use Rattle.rule.specs.declared.Asking.{Asking}
+use Rattle.held.specs.Lacking.{lackOf}
+use Rattle.held.specs.Giving.{givenByFirst, GivenMarks, GivenBits}
+use Rattle.held.proofs.Classes.{class-low, class-high, class-passes, passes-class, lack-no-class, lack-nothing, lack-lowest}
+use Rattle.held.proofs.Associations.{given-all, given-some, digit-low, digit-high, marks-none, bits-none}
+
+-- whether the element has a class below c: 0 where it has none, 512 where it has one
+pub data Met (E : ℕ → Bool) (mem : List ℕ) (c : ℕ) : ℕ → Type 0 where
+  none-met : ((d : ℕ) → d < c → In d (classesOf E (policyOf mem)) → ⊥) → Met E mem c 0
+  one-met : {d : ℕ} → In d (classesOf E (policyOf mem)) → Met E mem c 512
+
+module _ (U E : ℕ → Bool) (T : ℕ → ℕ → Bool) (mem : List ℕ) (r : ℕ) where
+  -- the right is given in each class of the element below c, and `lacked` says whether there is one
+  pub record Far (c lacked : ℕ) : Type 0 where
+    pub given : (d : ℕ) → d < c → In d (classesOf E (policyOf mem)) → givenIn U E T (policyOf mem) r d ≡ true
+    pub met : Met E mem c lacked
+
+  -- the same, and c is a class of the element
+  pub record AtClass (c lacked : ℕ) : Type 0 where
+    pub far : Far c lacked
+    pub small : c < 512
+    pub its-class : In c (classesOf E (policyOf mem))
+
+  -- no class is below 1
+  far-none : Far 1 0
+  far-none = record {
+    given = λ d l i. absurd (omega (arith, class-low E mem i));
+    met = none-met (λ d l i. omega (arith, class-low E mem i));
+  }
+
+-- The turns, by any rows.
+module _ {U E : ℕ → Bool} {T : ℕ → ℕ → Bool} {mem : List ℕ} {r : ℕ} where
+  module _ {c lacked : ℕ} (f : Far U E T mem r c lacked) (l : c < 512) {b : Bool} (e : b ≡ classOf E (policyOf mem) c) where
+    -- c is no class of the element
+    far-on : not b ≡ true → Far U E T mem r (c + 1) lacked
+    far-on h = record { given = λ d k i. f .given d (below d k i) i; met = on (f .met) }
+      where
+        below : (d : ℕ) → d < c + 1 → In d (classesOf E (policyOf mem)) → d < c
+        below d k i = elim (decLt d c) [
+          | yes y ↦ y
+          | no n ↦ let q : d ≡ c = omega arith in absurd (clash (class-passes E mem (subst (λ (x : ℕ). In x (classesOf E (policyOf mem))) q i)) (sym e ∙ not-true b h))
+        ]
+
+        on : {lacked : ℕ} → Met E mem c lacked → Met E mem (c + 1) lacked
+        on (none-met n) = none-met (λ d k i. n d (below d k i) i)
+        on (one-met i) = one-met i
+
+    -- it is one
+    far-class : not b ≡ false → AtClass U E T mem r c lacked
+    far-class h = record { far = f; small = l; its-class = passes-class E mem (sym e ∙ not-false b h) }
+
+  -- past the last class
+  far-end : {c lacked : ℕ} → Far U E T mem r c lacked → 512 ≤ c → lacked ≡ lackOf U E T (policyOf mem) r
+  far-end {c} f h = go (f .met)
+    where
+      all : (d : ℕ) → In d (classesOf E (policyOf mem)) → givenIn U E T (policyOf mem) r d ≡ true
+      all d i = f .given d (omega (arith, class-high E mem i)) i
+
+      go : {lacked : ℕ} → Met E mem c lacked → lacked ≡ lackOf U E T (policyOf mem) r
+      go (none-met n) = sym (lack-no-class U E T (policyOf mem) r (λ d i. n d (omega (arith, class-high E mem i)) i))
+      go (one-met i) = sym (lack-nothing U E T (policyOf mem) r i all)
+
+  -- what the first i associations say of a class of the element
+  module _ {c lacked : ℕ} (a : AtClass U E T mem r c lacked) (i : ℕ) where
+    -- they give the right in it
+    class-given : i ≤ associationCount mem → givenByFirst U E T mem r i c ≡ true → Far U E T mem r (c + 1) 512
+    class-given m g = record {
+      given = λ d k j. elim (decLt d c) [
+        | yes y ↦ a .far .given d y j
+        | no n ↦ let q : d ≡ c = omega arith in rw q (given-some U E T mem r i c m g)
+      ];
+      met = one-met (a .its-class);
+    }
+
+    -- they are all, and do not: it is the lowest that lacks it
+    class-lacks : i ≡ associationCount mem → givenByFirst U E T mem r i c ≡ false → c ≡ lackOf U E T (policyOf mem) r
+    class-lacks m g =
+        sym (lack-lowest U E T (policyOf mem) r (a .its-class) (sym (given-all U E T mem r c) ∙ ap (λ (j : ℕ). givenByFirst U E T mem r j c) (sym m) ∙ g) (a .far .given))
+
+-- The loop over the classes, by climbing: how far it has come, with i of the n associations seen.
+pub record FarMarked (mem rows : List ℕ) (q : Asking) (n c lacked i : ℕ) (given queue : List ℕ) (tail : ℕ) : Type 0 where
+  pub far : Far (seen rows false (q .by)) (seen rows false (q .over)) (contained (policyOf mem)) mem (q .right) c lacked
+  pub marks : GivenMarks mem rows q i given queue tail
+  pub counted : n ≡ associationCount mem
+  pub few : i ≤ n
+
+-- the same, at a class of the element
+pub record AtMarked (mem rows : List ℕ) (q : Asking) (n c lacked i : ℕ) (given queue : List ℕ) (tail : ℕ) : Type 0 where
+  pub far : FarMarked mem rows q n c lacked i given queue tail
+  pub at : AtClass (seen rows false (q .by)) (seen rows false (q .over)) (contained (policyOf mem)) mem (q .right) c lacked
+
+-- it starts
+pub marked-start : (mem rows : List ℕ) (q : Asking) {n : ℕ} → n ≡ associationCount mem → FarMarked mem rows q n 1 0 0 (replicate 512 0) (replicate 512 0) 0
+marked-start mem rows q k = record { far = far-none (seen rows false (q .by)) (seen rows false (q .over)) (contained (policyOf mem)) mem (q .right); marks = marks-none mem rows q; counted = k; few = omega arith }
+
+module _ {mem rows : List ℕ} {q : Asking} {n c lacked i : ℕ} {given queue : List ℕ} {tail : ℕ} (f : FarMarked mem rows q n c lacked i given queue tail) where
+  module _ (l : c < 512) {b : Bool} (e : b ≡ classOf (seen rows false (q .over)) (policyOf mem) c) where
+    -- c is no class of the element
+    pub marked-on : not b ≡ true → FarMarked mem rows q n (c + 1) lacked i given queue tail
+    marked-on h = record { far = far-on (f .far) l e h; marks = f .marks; counted = f .counted; few = f .few }
+
+    -- it is one
+    pub marked-class : not b ≡ false → AtMarked mem rows q n c lacked i given queue tail
+    marked-class h = record { far = f; at = far-class (f .far) l e h }
+
+  -- past the last class
+  pub marked-end : 512 ≤ c → lacked ≡ lackOf (seen rows false (q .by)) (seen rows false (q .over)) (contained (policyOf mem)) (policyOf mem) (q .right)
+  marked-end h = far-end (f .far) h
+
+module _ {mem rows : List ℕ} {q : Asking} {n c lacked i : ℕ} {given queue : List ℕ} {tail : ℕ} (a : AtMarked mem rows q n c lacked i given queue tail) where
+  -- one association more
+  pub marked-more : i < n → {given′ queue′ : List ℕ} {tail′ : ℕ} → GivenMarks mem rows q (i + 1) given′ queue′ tail′ → AtMarked mem rows q n c lacked (i + 1) given′ queue′ tail′
+  marked-more l g = record { far = record { far = a .far .far; marks = g; counted = a .far .counted; few = omega arith }; at = a .at }
+
+  -- whether one of the first i associations gives the right in the class
+  abbrev isMarked : Bool
+  isMarked = givenByFirst (seen rows false (q .by)) (seen rows false (q .over)) (contained (policyOf mem)) mem (q .right) i c
+
+  -- its mark is set: they give it
+  pub marked-given : 1 ≤ getD given c 0 → FarMarked mem rows q n (c + 1) 512 i given queue tail
+  marked-given s = record {
+    far = class-given (a .at) i (omega (arith, a .far .counted, a .far .few)) (digit-high isMarked (omega (arith, a .far .marks .is c (a .at .small))));
+    marks = a .far .marks;
+    counted = a .far .counted;
+    few = a .far .few;
+  }
+
+  -- its mark is not set, and all associations have been seen
+  pub marked-lacks : n ≤ i → getD given c 0 < 1 → c ≡ lackOf (seen rows false (q .by)) (seen rows false (q .over)) (contained (policyOf mem)) (policyOf mem) (q .right)
+  marked-lacks m s =
+      class-lacks (a .at) i (omega (arith, a .far .counted, a .far .few))
+      (digit-low isMarked (omega (arith, a .far .marks .is c (a .at .small))))
+
+-- The loop over the classes, by the bits of an index: how far it has come, with i of the n associations seen.
+pub record FarBits (mem idx : List ℕ) (q : Asking) (n c lacked i : ℕ) (given : List ℕ) : Type 0 where
+  pub far : Far (seen idx true (q .by)) (seen idx true (q .over)) (bitAt idx) mem (q .right) c lacked
+  pub bits : GivenBits mem idx q i given
+  pub counted : n ≡ associationCount mem
+  pub few : i ≤ n
+
+-- the same, at a class of the element
+pub record AtBits (mem idx : List ℕ) (q : Asking) (n c lacked i : ℕ) (given : List ℕ) : Type 0 where
+  pub far : FarBits mem idx q n c lacked i given
+  pub at : AtClass (seen idx true (q .by)) (seen idx true (q .over)) (bitAt idx) mem (q .right) c lacked
+
+-- it starts
+pub bit-start : (mem idx : List ℕ) (q : Asking) {n : ℕ} → n ≡ associationCount mem → FarBits mem idx q n 1 0 0 (replicate 64 0)
+bit-start mem idx q k = record { far = far-none (seen idx true (q .by)) (seen idx true (q .over)) (bitAt idx) mem (q .right); bits = bits-none mem idx q; counted = k; few = omega arith }
+
+module _ {mem idx : List ℕ} {q : Asking} {n c lacked i : ℕ} {given : List ℕ} (f : FarBits mem idx q n c lacked i given) where
+  module _ (l : c < 512) {b : Bool} (e : b ≡ classOf (seen idx true (q .over)) (policyOf mem) c) where
+    -- c is no class of the element
+    pub bit-on : not b ≡ true → FarBits mem idx q n (c + 1) lacked i given
+    bit-on h = record { far = far-on (f .far) l e h; bits = f .bits; counted = f .counted; few = f .few }
+
+    -- it is one
+    pub bit-class : not b ≡ false → AtBits mem idx q n c lacked i given
+    bit-class h = record { far = f; at = far-class (f .far) l e h }
+
+  -- past the last class
+  pub bit-end : 512 ≤ c → lacked ≡ lackOf (seen idx true (q .by)) (seen idx true (q .over)) (bitAt idx) (policyOf mem) (q .right)
+  bit-end h = far-end (f .far) h
+
+module _ {mem idx : List ℕ} {q : Asking} {n c lacked i : ℕ} {given : List ℕ} (a : AtBits mem idx q n c lacked i given) where
+  -- one association more
+  pub bit-more : i < n → {given′ : List ℕ} → GivenBits mem idx q (i + 1) given′ → AtBits mem idx q n c lacked (i + 1) given′
+  bit-more l g = record { far = record { far = a .far .far; bits = g; counted = a .far .counted; few = omega arith }; at = a .at }
+
+  module _ {s : Bool} (t : s ≡ bitAt given 0 c) where
+    -- its bit is 1: they give it
+    pub bit-given : not s ≡ false → FarBits mem idx q n (c + 1) 512 i given
+    bit-given o = record {
+      far = class-given (a .at) i (omega (arith, a .far .counted, a .far .few)) (sym (a .far .bits .is c (a .at .small)) ∙ sym t ∙ not-false s o);
+      bits = a .far .bits;
+      counted = a .far .counted;
+      few = a .far .few;
+    }
+
+    -- its bit is 0, and all associations have been seen
+    pub bit-lacks : n ≤ i → not s ≡ true → c ≡ lackOf (seen idx true (q .by)) (seen idx true (q .over)) (bitAt idx) (policyOf mem) (q .right)
+    bit-lacks m o =
+        class-lacks (a .at) i (omega (arith, a .far .counted, a .far .few)) (sym (a .far .bits .is c (a .at .small)) ∙ sym t ∙ not-true s o)

@@ -1,0 +1,2 @@
+pub mod Lacking
+pub mod Giving

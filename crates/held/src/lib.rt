@@ -1,0 +1,149 @@
+// Whether a right is held over an element, and what lacks for it: in each class of the element some association must give it.
+ghost use mathlib.Core.Path.{_≡_};
+ghost use mathlib.Core.Bool.{true, false};
+ghost use Prim.Native.Nat.{_+_, _<_};
+ghost use lib.ListN.{length};
+ghost use Rattle.model.specs.Contain.{contained};
+ghost use Rattle.model.specs.Index.{bitAt};
+ghost use Rattle.table.specs.Layout.{associationCount};
+ghost use Rattle.table.specs.View.{policyOf};
+ghost use Rattle.table.specs.Facts.{Table};
+ghost use Rattle.rule.specs.Sight.{seen};
+ghost use Rattle.held.specs.Lacking.{lackOf, lackBy, sight, Rows, permits};
+ghost use Rattle.held.specs.Giving.{GivenMarks, GivenBits};
+use rule::Asking;
+
+// What `lack` answers where the right is held.
+pub const HELD: u32 = 512;
+
+// What it answers where the element has no class.
+const NO_CLASS: u32 = 0;
+
+// Marks the classes in which association i gives the right: climbs on from its target.
+fn give_by_climb(
+    mem: &[u32],
+    rows: &[u8],
+    q: Asking,
+    i: usize,
+    given: &mut [u8; 512],
+    queue: &mut [u32; 512],
+    tail: usize,
+) -> usize
+    requires { ⌜ Table (now mem) ⌝ }
+    requires { ⌜ i < associationCount (now mem) ⌝ }
+    requires { ⌜ q .right < 32 ⌝ }
+    requires { ⌜ GivenMarks (now mem) (now rows) q i (now given) (now queue) tail ⌝ }
+    ensures { λ r. ⌜ GivenMarks (now (mem .entry)) (now (rows .entry)) q (i + 1) (now (given .exit)) (now (queue .exit)) r ⌝ }
+{
+    if !rule::is_offered(mem, rows, false, q, i) {
+        return tail;
+    }
+    let target = table::target_at(mem, i);
+    climb::climb_on(mem, target, given, queue, tail)
+}
+
+// What lacks for the right to be held, by climbing: the associations are gone through once, as far as the classes of the element need them, and
+// what their targets are within is climbed once.
+fn lack_by_climb(mem: &[u32], rows: &[u8], q: Asking) -> u32
+    requires { ⌜ Table (now mem) ⌝ }
+    requires { ⌜ q .right < 32 ⌝ }
+    ensures { λ r. ⌜ r ≡ lackOf (seen (now (rows .entry)) false (q .by)) (seen (now (rows .entry)) false (q .over)) (contained (policyOf (now (mem .entry)))) (policyOf (now (mem .entry))) (q .right) ⌝ }
+{
+    let n = table::association_count(mem);
+    let mut given = [0u8; 512];
+    let mut queue = [0u32; 512];
+    let mut tail = 0;
+    let mut lacked = NO_CLASS;
+    let mut i = 0;
+    let mut c = 1;
+    'classes: while c < 512 {
+        if !rule::is_class_of(mem, rows, false, q.over, c) {
+            c += 1;
+            continue 'classes;
+        }
+        while given[c as usize] < 1 {
+            if n <= i {
+                lacked = c;
+                break 'classes;
+            }
+            tail = give_by_climb(mem, rows, q, i, &mut given, &mut queue, tail);
+            i += 1;
+        }
+        lacked = HELD;
+        c += 1;
+    }
+    lacked
+}
+
+// Marks the classes in which association i gives the right: the row of its target.
+fn give_by_index(mem: &[u32], idx: &[u8], q: Asking, i: usize, given: &mut [u8])
+    requires { ⌜ Table (now mem) ⌝ }
+    requires { ⌜ length (now idx) ≡ 32768 ⌝ }
+    requires { ⌜ i < associationCount (now mem) ⌝ }
+    requires { ⌜ q .right < 32 ⌝ }
+    requires { ⌜ GivenBits (now mem) (now idx) q i (now given) ⌝ }
+    ensures { λ _. ⌜ GivenBits (now (mem .entry)) (now (idx .entry)) q (i + 1) (now (given .exit)) ⌝ }
+{
+    if !rule::is_offered(mem, idx, true, q, i) {
+        return;
+    }
+    let target = table::target_at(mem, i);
+    index::join_row(idx, target, given);
+}
+
+// What lacks for the right to be held, by the bits of an index.
+fn lack_by_index(mem: &[u32], idx: &[u8], q: Asking) -> u32
+    requires { ⌜ Table (now mem) ⌝ }
+    requires { ⌜ length (now idx) ≡ 32768 ⌝ }
+    requires { ⌜ q .right < 32 ⌝ }
+    ensures { λ r. ⌜ r ≡ lackOf (seen (now (idx .entry)) true (q .by)) (seen (now (idx .entry)) true (q .over)) (bitAt (now (idx .entry))) (policyOf (now (mem .entry))) (q .right) ⌝ }
+{
+    let n = table::association_count(mem);
+    let mut given = [0u8; 64];
+    let mut lacked = NO_CLASS;
+    let mut i = 0;
+    let mut c = 1;
+    'classes: while c < 512 {
+        if !rule::is_class_of(mem, idx, true, q.over, c) {
+            c += 1;
+            continue 'classes;
+        }
+        while !index::bit(&given, 0, c) {
+            if n <= i {
+                lacked = c;
+                break 'classes;
+            }
+            give_by_index(mem, idx, q, i, &mut given);
+            i += 1;
+        }
+        lacked = HELD;
+        c += 1;
+    }
+    lacked
+}
+
+// What lacks for the right to be held: nothing (`HELD`), or the lowest class in which no association gives it, 0 where there is no class.
+pub fn lack(mem: &[u32], rows: &[u8], indexed: bool, q: Asking) -> u32
+    requires { ⌜ Table (now mem) ⌝ }
+    requires { ⌜ q .right < 32 ⌝ }
+    requires { ⌜ Rows (now mem) (now rows) indexed q ⌝ }
+    ensures { λ r. ⌜ r ≡ lackBy (sight (now (mem .entry)) (now (rows .entry)) indexed) (policyOf (now (mem .entry))) (q .user) (q .right) (q .element) ⌝ }
+{
+    if indexed {
+        return lack_by_index(mem, rows, q);
+    }
+    lack_by_climb(mem, rows, q)
+}
+
+// Whether the right is held and not restricted.
+pub fn is_permitted(mem: &[u32], rows: &[u8], indexed: bool, q: Asking) -> bool
+    requires { ⌜ Table (now mem) ⌝ }
+    requires { ⌜ q .right < 32 ⌝ }
+    requires { ⌜ Rows (now mem) (now rows) indexed q ⌝ }
+    ensures { λ r. ⌜ r ≡ permits (sight (now (mem .entry)) (now (rows .entry)) indexed) (policyOf (now (mem .entry))) (q .process) (q .user) (q .right) (q .element) ⌝ }
+{
+    if lack(mem, rows, indexed, q) != HELD {
+        return false;
+    }
+    !rule::is_restricted(mem, rows, indexed, q)
+}

@@ -1,0 +1,5 @@
+pub mod Fields
+pub mod Above
+pub mod Firsts
+pub mod Naming
+pub mod Taken

@@ -1,0 +1,5 @@
+pub mod Operations
+pub mod Arguments
+pub mod Refused
+pub mod Accepts
+pub mod Alternatives

@@ -1,0 +1,5 @@
+pub mod Loops
+pub mod Sighted
+pub mod Parts
+pub mod Ranges
+pub mod Restrictions

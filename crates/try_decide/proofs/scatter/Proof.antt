@@ -1,0 +1,68 @@
+use mathlib.Core.Path.{_≡_}
+use Prim.Native.Nat.{_-_}
+use native.Mathlib.Omega.{arith}
+use lib.ListN.{length, length-set}
+use Rattle.try_decide.proofs.scatter.Statement.{statement}
+use Rattle.try_decide.proofs.scatter.Tie as tie
+use Rattle.try_decide.proofs.scatter.Reads as reads
+use Rattle.try_decide.proofs.scatter.Lts as lts
+use Rattle.try_decide.proofs.byte_of.Reads as byte-of-reads
+use Rattle.try_decide.proofs.next.Reads as next-reads
+
+abbrev Inv-loop : tie.InvT-loop
+Inv-loop idx₀ seed share n x₀ i₀ idx x i = length idx ≡ n
+
+abbrev μ-loop : tie.MeasureT-loop
+μ-loop idx₀ seed share n x₀ i₀ idx x i = n - i
+
+-- src/main.rt:267:5
+loop-holds : tie.Need-loop-holds Inv-loop μ-loop
+loop-holds c = omega arith
+
+-- src/main.rt:268:9
+next-requires : tie.Need-next-requires Inv-loop μ-loop
+next-requires c κs = omega arith
+
+-- src/main.rt:269:18
+byte-of-requires : tie.Need-byte-of-requires Inv-loop μ-loop
+byte-of-requires c κs = omega arith
+
+-- src/main.rt:269:9
+slice-write-idx : tie.Need-slice-write-idx Inv-loop μ-loop
+slice-write-idx c = omega arith
+
+-- src/main.rt:270:9
+add-i : tie.Need-add-i Inv-loop μ-loop
+add-i c = omega arith
+
+-- src/main.rt:267:5
+loop-less : tie.Need-loop-less Inv-loop μ-loop
+loop-less c = omega arith
+
+-- src/main.rt:267:5
+loop-again : tie.Need-loop-again Inv-loop μ-loop
+loop-again c = simp length-set (omega arith)
+
+-- src/main.rt:263:1
+same-length : tie.Need-same-length Inv-loop μ-loop
+same-length c = omega arith
+
+-- src/main.rt:263:1
+returns : tie.Need-returns Inv-loop μ-loop
+returns c = omega arith
+
+pub scatter-spec : {M : Type 1} → statement M
+scatter-spec =
+    tie.close
+    (tie.spec
+    Inv-loop
+    μ-loop
+    loop-holds
+    next-requires
+    byte-of-requires
+    slice-write-idx
+    add-i
+    loop-less
+    loop-again
+    same-length
+    returns)

@@ -1,0 +1,163 @@
+//! The working memory as the pages publish it: which words hold a table, and which policy the table is
+//! (docs/CONTRACTS.md, "Which memory holds a table"; docs/DESIGN.md, "The memory").
+//!
+//! Memory of the right shape denotes a policy, sound or not. A number above 511 where an id stands is no
+//! element's; the policy has a stand-in for it, also above 511, and `Table` knows the number itself.
+
+use crate::policy::{Policy, Prohibition};
+
+/// A table has 8,192 words.
+pub const WORDS: usize = 8_192;
+/// What word 0 of a table holds.
+const MARK: u32 = 1_363_431_985;
+/// The kind of element x stands at 8 + x, the user of process i at 520 + i.
+pub const KINDS: usize = 8;
+pub const USERS: usize = 520;
+/// An element's id, and a prohibition's subject, is below 512.
+const IDS: u32 = 512;
+
+/// Records of the same width, one after the other; how many there are stands in a word of its own.
+pub struct Group {
+    pub start: usize,
+    pub width: usize,
+    pub counter: usize,
+    pub most: usize,
+}
+
+/// child * 512 + container.
+pub const ASSIGNMENTS: Group = Group { start: 776, width: 1, counter: 1, most: 2_000 };
+/// attribute * 512 + target; rights.
+pub const ASSOCIATIONS: Group = Group { start: 2_776, width: 2, counter: 2, most: 1_000 };
+/// sort * 1024 + subject * 2 + form; rights; inclusion count * 8 + exclusion count; eight ids.
+pub const PROHIBITIONS: Group = Group { start: 5_776, width: 11, counter: 3, most: 200 };
+
+impl Group {
+    /// Are there at most as many records as there can be?
+    fn fits(&self, words: &[u32]) -> bool {
+        words[self.counter] as usize <= self.most
+    }
+
+    /// The records of words that hold a table.
+    fn records<'a>(&self, words: &'a [u32]) -> impl Iterator<Item = &'a [u32]> {
+        let length = self.width * words[self.counter] as usize;
+        words[self.start..self.start + length].chunks_exact(self.width)
+    }
+
+    /// Does the record stand in the group? The words hold a table.
+    pub fn has(&self, words: &[u32], record: &[u32]) -> bool {
+        self.records(words).any(|standing| standing == record)
+    }
+
+    /// Puts the record before the first that it is before, and counts it; false where there is no room.
+    /// The words hold a table.
+    pub fn put(&self, words: &mut [u32], record: &[u32]) -> bool {
+        let count = words[self.counter] as usize;
+        if count == self.most {
+            return false;
+        }
+        let place = (0..count)
+            .find(|i| record < &words[self.start + self.width * i..][..self.width])
+            .unwrap_or(count);
+        let (from, end) = (self.start + self.width * place, self.start + self.width * count);
+        words.copy_within(from..end, from + self.width);
+        words[from..from + self.width].copy_from_slice(record);
+        words[self.counter] += 1;
+        true
+    }
+}
+
+/// The policy that words are.
+pub struct Table {
+    pub policy: Policy,
+    /// What the policy's stand-ins from 512 on stand for.
+    pub wide: Vec<u32>,
+}
+
+impl Table {
+    /// The number itself where it is below 512, else its stand-in.
+    fn id(&mut self, number: u32) -> u16 {
+        if number < IDS {
+            return number as u16;
+        }
+        self.wide.push(number);
+        (IDS as usize + self.wide.len() - 1) as u16
+    }
+
+    /// What an id of the policy stands for.
+    pub fn number(&self, id: u16) -> u32 {
+        u32::from(id).checked_sub(IDS).map_or(u32::from(id), |place| self.wide[place as usize])
+    }
+
+    /// The prohibition of a record.
+    fn prohibition(&mut self, record: &[u32]) -> Prohibition {
+        let (head, inclusions, exclusions) = (record[0], record[2] / 8, record[2] % 8);
+        let listed = &record[3..][..(inclusions + exclusions) as usize];
+        let ids: Vec<u16> = listed.iter().map(|number| self.id(*number)).collect();
+        let (inclusions, exclusions) = ids.split_at(inclusions as usize);
+        Prohibition {
+            // a sort that is none of the three concerns nobody
+            sort: u8::try_from(head / 1024).unwrap_or(0),
+            subject: (head / 2 % IDS) as u16,
+            form: (head % 2) as u8,
+            rights: record[1],
+            inclusions: inclusions.to_vec(),
+            exclusions: exclusions.to_vec(),
+        }
+    }
+}
+
+/// Makes the words the empty table; false where they are not 8,192.
+pub fn clear(words: &mut [u32]) -> bool {
+    if words.len() != WORDS {
+        return false;
+    }
+    words.fill(0);
+    words[0] = MARK;
+    true
+}
+
+/// Do the words hold a table? The page's lines, one after the other.
+pub fn holds_table(words: &[u32]) -> bool {
+    words.len() == WORDS
+        && words[0] == MARK
+        && [ASSIGNMENTS, ASSOCIATIONS, PROHIBITIONS].iter().all(|group| group.fits(words))
+        && ASSIGNMENTS.records(words).is_sorted_by(|one, next| one < next)
+        && ASSIGNMENTS.records(words).all(|record| record[0] < IDS * IDS)
+        && PROHIBITIONS.records(words).all(is_tidy)
+}
+
+/// At most four ids in each list of a prohibition, and zero in the places that none takes.
+fn is_tidy(record: &[u32]) -> bool {
+    let (inclusions, exclusions) = (record[2] / 8, record[2] % 8);
+    inclusions <= 4
+        && exclusions <= 4
+        && record[3..].iter().skip((inclusions + exclusions) as usize).all(|word| *word == 0)
+}
+
+/// The table that words hold.
+pub fn table(words: &[u32]) -> Table {
+    let mut table = Table { policy: Policy::new(), wide: Vec::new() };
+    let pairs = ASSIGNMENTS.records(words).map(|record| ((record[0] / IDS) as u16, (record[0] % IDS) as u16));
+    table.policy.assignments = pairs.collect();
+    for record in ASSOCIATIONS.records(words) {
+        let attribute = table.id(record[0] / IDS);
+        table.policy.associations.insert((attribute, (record[0] % IDS) as u16, record[1]));
+    }
+    for record in PROHIBITIONS.records(words) {
+        let prohibition = table.prohibition(record);
+        table.policy.prohibitions.insert(prohibition);
+    }
+    for id in 1..IDS as u16 {
+        let kind = words[KINDS + usize::from(id)];
+        if (1..=5).contains(&kind) {
+            table.policy.elements.insert(id, kind as u8);
+        }
+    }
+    for id in 1..=255 {
+        let user = words[USERS + usize::from(id)];
+        if (1..IDS).contains(&user) {
+            table.policy.processes.insert(id, user as u16);
+        }
+    }
+    table
+}
