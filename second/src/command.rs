@@ -3,7 +3,7 @@
 //! Each command is its refusal lines, lowest first and each over all arguments, and then the change.
 //! The judgement looks at the policy alone; of the index only its length matters.
 
-use crate::index::{build_index, has_another_length};
+use crate::index::{build_index, INDEX_BYTES};
 use crate::policy::{
     is_element_id, is_process_id, may_be_assigned, strictly_rises, Policy, Prohibition, ATTRIBUTES, CLASS,
     LONGEST_LIST, MOST_ASSIGNMENTS, MOST_ASSOCIATIONS, MOST_PROHIBITIONS, SORT_PROCESS, SORT_USER, USER,
@@ -22,6 +22,20 @@ pub struct GivenProhibition {
     pub rights: u32,
     pub inclusions: Vec<u32>,
     pub exclusions: Vec<u32>,
+}
+
+impl GivenProhibition {
+    pub fn new(
+        sort: u32,
+        subject: u32,
+        form: u32,
+        rights: u32,
+        inclusions: &[u32],
+        exclusions: &[u32],
+    ) -> GivenProhibition {
+        let (inclusions, exclusions) = (inclusions.to_vec(), exclusions.to_vec());
+        GivenProhibition { sort, subject, form, rights, inclusions, exclusions }
+    }
 }
 
 /// A command with its arguments, any values.
@@ -72,6 +86,12 @@ impl Command {
             Command::EndProcess { .. } => 10,
         }
     }
+
+    /// Can the command change what is there or what is within what? 01: "Every command takes the table and the index
+    /// and leaves both up to date." Only these have something to bring up to date.
+    pub fn changes_containment(&self) -> bool {
+        self.number() < 5
+    }
 }
 
 /// A policy and its index, as the commands take them.
@@ -99,51 +119,112 @@ impl Machine {
         Machine { policy, index }
     }
 
-    /// Runs one command. A refused one changes neither the policy nor the index; an accepted one
-    /// leaves the policy's index, also where the index was foreign before.
+    /// Runs one command. A refused one changes neither the policy nor the index. An accepted one that can change what
+    /// is within what leaves the policy's index, also where the index was foreign before; the others leave the
+    /// index as it was.
     pub fn run(&mut self, command: &Command) -> Result<(), u32> {
-        match command {
-            Command::CreateClass { id } => self.create_class(*id),
-            Command::CreateElement { id, kind, container } => self.create_element(*id, *kind, *container),
-            Command::Assign { child, container } => self.assign(*child, *container),
-            Command::Deassign { child, container } => self.deassign(*child, *container),
-            Command::DeleteElement { id } => self.delete_element(*id),
-            Command::CreateAssociation { attribute, rights, target } => {
-                self.create_association(*attribute, *rights, *target)
-            }
-            Command::DeleteAssociation { attribute, rights, target } => {
-                self.delete_association(*attribute, *rights, *target)
-            }
-            Command::CreateProhibition(given) => self.create_prohibition(
-                given.sort,
-                given.subject,
-                given.form,
-                given.rights,
-                &given.inclusions,
-                &given.exclusions,
-            ),
-            Command::DeleteProhibition(given) => self.delete_prohibition(
-                given.sort,
-                given.subject,
-                given.form,
-                given.rights,
-                &given.inclusions,
-                &given.exclusions,
-            ),
-            Command::StartProcess { id, user } => self.start_process(*id, *user),
-            Command::EndProcess { id } => self.end_process(*id),
+        run(&mut self.policy, self.index.len(), command)?;
+        if command.changes_containment() {
+            self.index = build_index(&self.policy);
         }
+        Ok(())
     }
 
+    pub fn create_class(&mut self, id: u32) -> Result<(), u32> {
+        self.run(&Command::CreateClass { id })
+    }
+
+    pub fn create_element(&mut self, id: u32, kind: u32, container: u32) -> Result<(), u32> {
+        self.run(&Command::CreateElement { id, kind, container })
+    }
+
+    pub fn assign(&mut self, child: u32, container: u32) -> Result<(), u32> {
+        self.run(&Command::Assign { child, container })
+    }
+
+    pub fn deassign(&mut self, child: u32, container: u32) -> Result<(), u32> {
+        self.run(&Command::Deassign { child, container })
+    }
+
+    pub fn delete_element(&mut self, id: u32) -> Result<(), u32> {
+        self.run(&Command::DeleteElement { id })
+    }
+
+    pub fn create_association(&mut self, attribute: u32, rights: u32, target: u32) -> Result<(), u32> {
+        self.run(&Command::CreateAssociation { attribute, rights, target })
+    }
+
+    pub fn delete_association(&mut self, attribute: u32, rights: u32, target: u32) -> Result<(), u32> {
+        self.run(&Command::DeleteAssociation { attribute, rights, target })
+    }
+
+    pub fn create_prohibition(
+        &mut self,
+        sort: u32,
+        subject: u32,
+        form: u32,
+        rights: u32,
+        inclusions: &[u32],
+        exclusions: &[u32],
+    ) -> Result<(), u32> {
+        let given = GivenProhibition::new(sort, subject, form, rights, inclusions, exclusions);
+        self.run(&Command::CreateProhibition(given))
+    }
+
+    pub fn delete_prohibition(
+        &mut self,
+        sort: u32,
+        subject: u32,
+        form: u32,
+        rights: u32,
+        inclusions: &[u32],
+        exclusions: &[u32],
+    ) -> Result<(), u32> {
+        let given = GivenProhibition::new(sort, subject, form, rights, inclusions, exclusions);
+        self.run(&Command::DeleteProhibition(given))
+    }
+
+    pub fn start_process(&mut self, id: u32, user: u32) -> Result<(), u32> {
+        self.run(&Command::StartProcess { id, user })
+    }
+
+    pub fn end_process(&mut self, id: u32) -> Result<(), u32> {
+        self.run(&Command::EndProcess { id })
+    }
+}
+
+/// Runs one command on the policy; of the index only the length is asked. A refused one changes nothing.
+pub fn run(policy: &mut Policy, index_length: usize, command: &Command) -> Result<(), u32> {
+    let mut judge = Judge { policy, index_length };
+    match command {
+        Command::CreateClass { id } => judge.create_class(*id),
+        Command::CreateElement { id, kind, container } => judge.create_element(*id, *kind, *container),
+        Command::Assign { child, container } => judge.assign(*child, *container),
+        Command::Deassign { child, container } => judge.deassign(*child, *container),
+        Command::DeleteElement { id } => judge.delete_element(*id),
+        Command::CreateAssociation { attribute, rights, target } => {
+            judge.create_association(*attribute, *rights, *target)
+        }
+        Command::DeleteAssociation { attribute, rights, target } => {
+            judge.delete_association(*attribute, *rights, *target)
+        }
+        Command::CreateProhibition(given) => judge.create_prohibition(given),
+        Command::DeleteProhibition(given) => judge.delete_prohibition(given),
+        Command::StartProcess { id, user } => judge.start_process(*id, *user),
+        Command::EndProcess { id } => judge.end_process(*id),
+    }
+}
+
+/// A policy that a command is run on.
+struct Judge<'a> {
+    policy: &'a mut Policy,
+    index_length: usize,
+}
+
+impl Judge<'_> {
     /// The part of line 2 that every command has: "index not 32,768 bytes".
     fn index_line(&self) -> Result<(), u32> {
-        line(OUT_OF_RANGE, has_another_length(&self.index))
-    }
-
-    /// 01: "Every command takes the table and the index and leaves both up to date."
-    fn done(&mut self) -> Result<(), u32> {
-        self.index = build_index(&self.policy);
-        Ok(())
+        line(OUT_OF_RANGE, self.index_length != INDEX_BYTES)
     }
 
     fn is_absent(&self, id: u16) -> bool {
@@ -151,18 +232,18 @@ impl Machine {
     }
 
     /// Create class. 2, 3. (Line 10 cannot hold: with 511 elements every id is taken.)
-    pub fn create_class(&mut self, id: u32) -> Result<(), u32> {
+    fn create_class(&mut self, id: u32) -> Result<(), u32> {
         self.index_line()?;
         line(OUT_OF_RANGE, !is_element_id(id))?;
         let id = id as u16;
         line(ALREADY_THERE, !self.is_absent(id))?;
         self.policy.elements.insert(id, CLASS);
-        self.done()
+        Ok(())
     }
 
     /// Create element, "which also makes its first assignment". 2, 3, 4, 5, 10. The container is
     /// always asked for, so kind 5 is never accepted: "kind 5 given a container" is line 5.
-    pub fn create_element(&mut self, id: u32, kind: u32, container: u32) -> Result<(), u32> {
+    fn create_element(&mut self, id: u32, kind: u32, container: u32) -> Result<(), u32> {
         self.index_line()?;
         line(OUT_OF_RANGE, !is_element_id(id) || !(1..=5).contains(&kind) || !is_element_id(container))?;
         let (id, kind, container) = (id as u16, kind as u8, container as u16);
@@ -173,11 +254,11 @@ impl Machine {
         line(NO_ROOM, self.policy.assignments.len() >= MOST_ASSIGNMENTS)?;
         self.policy.elements.insert(id, kind);
         self.policy.assignments.insert((id, container));
-        self.done()
+        Ok(())
     }
 
     /// Assign. 2, 3, 4, 5, 7, 10.
-    pub fn assign(&mut self, child: u32, container: u32) -> Result<(), u32> {
+    fn assign(&mut self, child: u32, container: u32) -> Result<(), u32> {
         self.index_line()?;
         line(OUT_OF_RANGE, !is_element_id(child) || !is_element_id(container))?;
         let (child, container) = (child as u16, container as u16);
@@ -188,11 +269,11 @@ impl Machine {
         line(CYCLE, self.policy.within(container, child))?;
         line(NO_ROOM, self.policy.assignments.len() >= MOST_ASSIGNMENTS)?;
         self.policy.assignments.insert((child, container));
-        self.done()
+        Ok(())
     }
 
     /// Deassign. 2, 4, 5, 8. (5 cannot hold for an assignment of a sound policy.)
-    pub fn deassign(&mut self, child: u32, container: u32) -> Result<(), u32> {
+    fn deassign(&mut self, child: u32, container: u32) -> Result<(), u32> {
         self.index_line()?;
         line(OUT_OF_RANGE, !is_element_id(child) || !is_element_id(container))?;
         let (child, container) = (child as u16, container as u16);
@@ -202,16 +283,16 @@ impl Machine {
         line(KIND, !may_be_assigned(child_kind, container_kind))?;
         line(ONLY_ASSIGNMENT, self.policy.containers(child).count() == 1)?;
         self.policy.assignments.remove(&(child, container));
-        self.done()
+        Ok(())
     }
 
     /// Delete element, "with its own assignments". 2, 4, 9.
-    pub fn delete_element(&mut self, id: u32) -> Result<(), u32> {
+    fn delete_element(&mut self, id: u32) -> Result<(), u32> {
         self.index_line()?;
         line(OUT_OF_RANGE, !is_element_id(id))?;
         let id = id as u16;
         line(ABSENT, self.is_absent(id))?;
-        let policy = &self.policy;
+        let policy = &*self.policy;
         line(
             IN_USE,
             policy.assignments.iter().any(|(_, container)| *container == id)
@@ -221,7 +302,7 @@ impl Machine {
         )?;
         self.policy.elements.remove(&id);
         self.policy.assignments.retain(|(child, _)| *child != id);
-        self.done()
+        Ok(())
     }
 
     /// The kinds of an association: a user attribute, and a target of kind 2, 3 or 4.
@@ -230,7 +311,7 @@ impl Machine {
     }
 
     /// Create association. 2, 3, 4, 5, 6, 10.
-    pub fn create_association(&mut self, attribute: u32, rights: u32, target: u32) -> Result<(), u32> {
+    fn create_association(&mut self, attribute: u32, rights: u32, target: u32) -> Result<(), u32> {
         self.index_line()?;
         line(OUT_OF_RANGE, !is_element_id(attribute) || !is_element_id(target))?;
         let (attribute, target) = (attribute as u16, target as u16);
@@ -241,11 +322,11 @@ impl Machine {
         line(RIGHTS_OR_LISTS, rights == 0)?;
         line(NO_ROOM, self.policy.associations.len() >= MOST_ASSOCIATIONS)?;
         self.policy.associations.insert(association);
-        self.done()
+        Ok(())
     }
 
     /// Delete association, "exact triple". 2, 4, 5, 6. (5 and 6 cannot hold in a sound policy.)
-    pub fn delete_association(&mut self, attribute: u32, rights: u32, target: u32) -> Result<(), u32> {
+    fn delete_association(&mut self, attribute: u32, rights: u32, target: u32) -> Result<(), u32> {
         self.index_line()?;
         line(OUT_OF_RANGE, !is_element_id(attribute) || !is_element_id(target))?;
         let (attribute, target) = (attribute as u16, target as u16);
@@ -259,7 +340,7 @@ impl Machine {
         line(KIND, self.is_wrong_association(attribute, target))?;
         line(RIGHTS_OR_LISTS, rights == 0)?;
         self.policy.associations.remove(&association);
-        self.done()
+        Ok(())
     }
 
     /// Line 2 for a prohibition's fields; the whole of both lists is judged, however long they are.
@@ -316,52 +397,22 @@ impl Machine {
     }
 
     /// Create prohibition. 2, 3, 4, 5, 6, 10.
-    pub fn create_prohibition(
-        &mut self,
-        sort: u32,
-        subject: u32,
-        form: u32,
-        rights: u32,
-        inclusions: &[u32],
-        exclusions: &[u32],
-    ) -> Result<(), u32> {
+    fn create_prohibition(&mut self, given: &GivenProhibition) -> Result<(), u32> {
         self.index_line()?;
-        let prohibition = Self::prohibition_in_range(&GivenProhibition {
-            sort,
-            subject,
-            form,
-            rights,
-            inclusions: inclusions.to_vec(),
-            exclusions: exclusions.to_vec(),
-        })?;
+        let prohibition = Self::prohibition_in_range(given)?;
         line(ALREADY_THERE, self.policy.prohibitions.contains(&prohibition))?;
         line(ABSENT, self.names_something_absent(&prohibition))?;
         line(KIND, self.names_a_wrong_kind(&prohibition))?;
         line(RIGHTS_OR_LISTS, Self::has_wrong_rights_or_lists(&prohibition))?;
         line(NO_ROOM, self.policy.prohibitions.len() >= MOST_PROHIBITIONS)?;
         self.policy.prohibitions.insert(prohibition);
-        self.done()
+        Ok(())
     }
 
     /// Delete prohibition, "exact fields". 2, 4, 5, 6. (5 and 6 cannot hold in a sound policy.)
-    pub fn delete_prohibition(
-        &mut self,
-        sort: u32,
-        subject: u32,
-        form: u32,
-        rights: u32,
-        inclusions: &[u32],
-        exclusions: &[u32],
-    ) -> Result<(), u32> {
+    fn delete_prohibition(&mut self, given: &GivenProhibition) -> Result<(), u32> {
         self.index_line()?;
-        let prohibition = Self::prohibition_in_range(&GivenProhibition {
-            sort,
-            subject,
-            form,
-            rights,
-            inclusions: inclusions.to_vec(),
-            exclusions: exclusions.to_vec(),
-        })?;
+        let prohibition = Self::prohibition_in_range(given)?;
         line(
             ABSENT,
             self.names_something_absent(&prohibition) || !self.policy.prohibitions.contains(&prohibition),
@@ -369,11 +420,11 @@ impl Machine {
         line(KIND, self.names_a_wrong_kind(&prohibition))?;
         line(RIGHTS_OR_LISTS, Self::has_wrong_rights_or_lists(&prohibition))?;
         self.policy.prohibitions.remove(&prohibition);
-        self.done()
+        Ok(())
     }
 
     /// Start process. 2, 3, 4, 5. (Line 10 cannot hold: with 255 processes every id is taken.)
-    pub fn start_process(&mut self, id: u32, user: u32) -> Result<(), u32> {
+    fn start_process(&mut self, id: u32, user: u32) -> Result<(), u32> {
         self.index_line()?;
         line(OUT_OF_RANGE, !is_process_id(id) || !is_element_id(user))?;
         let (id, user) = (id as u8, user as u16);
@@ -381,17 +432,17 @@ impl Machine {
         line(ABSENT, self.is_absent(user))?;
         line(KIND, !self.policy.is_one_of(user, &[USER]))?;
         self.policy.processes.insert(id, user);
-        self.done()
+        Ok(())
     }
 
     /// End process. 2, 4, 9.
-    pub fn end_process(&mut self, id: u32) -> Result<(), u32> {
+    fn end_process(&mut self, id: u32) -> Result<(), u32> {
         self.index_line()?;
         line(OUT_OF_RANGE, !is_process_id(id))?;
         let id = id as u8;
         line(ABSENT, !self.policy.processes.contains_key(&id))?;
         line(IN_USE, self.policy.prohibitions.iter().any(|prohibition| prohibition.names_process(id)))?;
         self.policy.processes.remove(&id);
-        self.done()
+        Ok(())
     }
 }

@@ -5,8 +5,8 @@
 //! assignments, one sentence of 01 after the other.
 //!
 //! Arguments of calls are `u32`, so that numbers out of range can be tried. A refusal is 01's number.
-//! Refusal 1 speaks of working memory; this program has none, so only `leaves` and `decisions` give it, where a script
-//! says so: `words` reads memory as the project's pages publish it.
+//! Refusal 1 speaks of working memory; this program has none, so only `leaves`, `decisions` and `histories` give it, where a
+//! script says so: `words` reads memory as the project's pages publish it.
 
 pub mod bench;
 pub mod command;
@@ -14,6 +14,8 @@ pub mod decide;
 pub mod decisions;
 pub mod desk;
 pub mod explain;
+pub mod histories;
+mod histories_script;
 pub mod house;
 pub mod image;
 pub mod index;
@@ -22,6 +24,7 @@ pub mod make;
 pub mod policy;
 pub mod script;
 pub mod words;
+pub mod year;
 
 pub use bench::bench_script;
 pub use command::{Command, Machine};
@@ -29,6 +32,8 @@ pub use decide::{decide, decide_indexed, Answer};
 pub use decisions::decisions;
 pub use desk::desk;
 pub use explain::{explain, explain_into, Explanation, Row};
+pub use histories::histories;
+pub use histories_script::histories_script;
 pub use image::{load, save, save_into};
 pub use index::{build_index, build_index_into, is_index};
 pub use leaves::{leaves, leaves_script};

@@ -64,6 +64,16 @@ impl Group {
         words[self.counter] += 1;
         true
     }
+
+    /// Writes the group anew: these records, each filled up with zeros, and zeros behind them.
+    fn write(&self, words: &mut [u32], records: impl ExactSizeIterator<Item = Vec<u32>>) {
+        words[self.counter] = records.len() as u32;
+        let room = &mut words[self.start..self.start + self.width * self.most];
+        room.fill(0);
+        for (place, record) in room.chunks_exact_mut(self.width).zip(records) {
+            place[..record.len()].copy_from_slice(&record);
+        }
+    }
 }
 
 /// The policy that words are.
@@ -160,4 +170,30 @@ pub fn table(words: &[u32]) -> Table {
         }
     }
     table
+}
+
+/// Writes the table of a policy. Its groups stand in the image's order, with zeros behind the last record; words that no
+/// group has are left.
+pub fn write(policy: &Policy, words: &mut [u32]) {
+    let word = |id: u16| u32::from(id);
+    words[0] = MARK;
+    for id in 1..IDS as u16 {
+        words[KINDS + usize::from(id)] = policy.kind(id).map_or(0, u32::from);
+    }
+    for id in 1..=255 {
+        words[USERS + usize::from(id)] = policy.processes.get(&id).map_or(0, |user| word(*user));
+    }
+    let assignments = policy.assignments.iter().map(|(x, y)| vec![word(*x) * IDS + word(*y)]);
+    ASSIGNMENTS.write(words, assignments);
+    let associations = policy.associations.iter();
+    ASSOCIATIONS.write(words, associations.map(|(x, y, rights)| vec![word(*x) * IDS + word(*y), *rights]));
+    PROHIBITIONS.write(words, policy.prohibitions.iter().map(prohibition_record));
+}
+
+/// sort * 1024 + subject * 2 + form; rights; inclusion count * 8 + exclusion count; the ids.
+fn prohibition_record(given: &Prohibition) -> Vec<u32> {
+    let counts = 8 * given.inclusions.len() + given.exclusions.len();
+    let head = u32::from(given.sort) * 1024 + u32::from(given.subject) * 2 + u32::from(given.form);
+    let ids = given.inclusions.iter().chain(&given.exclusions).map(|id| u32::from(*id));
+    [head, given.rights, counts as u32].into_iter().chain(ids).collect()
 }

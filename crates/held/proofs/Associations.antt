@@ -26,7 +26,7 @@ use Rattle.index.proofs.Joins.{joined-bit, no-bits}
 use Rattle.rule.specs.Sight.{seen}
 use Rattle.rule.specs.Parts.{offers}
 use Rattle.rule.specs.declared.Asking.{Asking}
-use Rattle.rule.proofs.Loops.{any-more}
+use Rattle.table.proofs.Loops.{any-more}
 use Rattle.held.specs.Giving.{givenByFirst, GivenMarks, GivenBits}
 
 module _ (U E : ℕ → Bool) (T : ℕ → ℕ → Bool) (mem : List ℕ) (r : ℕ) where

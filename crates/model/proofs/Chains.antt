@@ -9,6 +9,7 @@ use native.Mathlib.Omega.{arith}
 use borrow.Author.Tests.{not-true, eqb-true}
 use lib.Dec.{eqb}
 use lib.ListN.{length}
+use Rattle.model.specs.History.{Reaches}
 use Rattle.model.specs.Lists.{In, first, later, anyOf, allOf, those}
 use Rattle.model.specs.Policy.{Element, Assignment, Policy, user, user-attribute, object, object-attribute, class, allowed, kindIn, kindOf}
 use Rattle.model.specs.Contain.{Assigned, Within, itself, above, Chain, link, contained}
@@ -157,12 +158,6 @@ module _ {A : Type 0} (f g : A → Bool) (wider : (a : A) → f a ≡ true → g
       go true p false q h = absurd (clash (wider b p) q)
       go false p true q h = omega arith
       go false p false q h = h
-
--- x is a policy class, or reaches one
-pub record Reaches (p : Policy) (x : ℕ) : Type 0 where
-  pub its-class : ℕ
-  pub is-class : In its-class (classes p)
-  pub within-it : Within (p .assignments) x its-class
 
 module _ (p : Policy) (s : Sound p) where
   -- how many elements x is within: it falls with each assignment taken

@@ -5,8 +5,10 @@ use mathlib.Core.Bool.{Bool, false, not, cond, _&&_, _||_}
 use mathlib.Core.List.{List, [], _∷_}
 use Prim.Native.Nat.{ℕ}
 use lib.Dec.{eqb}
-use Rattle.model.specs.Lists.{anyOf, same}
+use Rattle.model.specs.Lists.{In, anyOf, same}
 use Rattle.model.specs.Policy.{Element, Assignment, Association, Prohibition, Process, Policy, class, elementFields, assignmentFields, associationFields, prohibitionFields, processFields}
+use Rattle.model.specs.Contain.{Within}
+use Rattle.model.specs.Rule.{classes}
 use Rattle.model.specs.Command.{Command, create-class, create-element, assign, deassign, delete-element, create-association, delete-association, create-prohibition, delete-prohibition, start-process, end-process, commandRefusal, step}
 
 -- the policy after a sequence of commands
@@ -96,3 +98,9 @@ removes (end-process n) i = isProcessItem n i
 unfoldable pub stands : (Item → Bool) → List Command → Item → Bool
 stands start [] i = start i
 stands start (c ∷ log) i = stands (λ j. puts c j || start j && not (removes c j)) log i
+
+-- "every element is or reaches a policy class": x is a policy class, or reaches one
+pub record Reaches (p : Policy) (x : ℕ) : Type 0 where
+  pub its-class : ℕ
+  pub is-class : In its-class (classes p)
+  pub within-it : Within (p .assignments) x its-class

@@ -14,16 +14,6 @@ use Rattle.table.specs.View.{policyOf}
 use Rattle.request.specs.declared.Request.{Request}
 use Rattle.request.specs.Asks.{requestOf, refusalOf}
 
--- 0 is no id of a process
-pub process-zero : (i : ℕ) → i < 1 → false ≡ isProcessId i
-unfolding isProcessId
-process-zero i h = simp (lt-leb 1 i h)
-
--- any other number is one exactly if it is at most 255
-pub process-rest : (i : ℕ) → 1 ≤ i → leb i 255 ≡ isProcessId i
-unfolding isProcessId
-process-rest i h = simp (le-leb 1 i h)
-
 -- 0 is no operation
 pub operation-zero : (n : ℕ) → n < 1 → false ≡ isOperation n
 unfolding isOperation

@@ -1,7 +1,6 @@
 // Requests: the operation table, and which requests are refused.
 ghost use mathlib.Core.Path.{_≡_};
 ghost use Prim.Native.Nat.{_≤_, _<_};
-ghost use Rattle.model.specs.Policy.{isProcessId};
 ghost use Rattle.model.specs.Request.{isOperation, badArguments, absentArguments, argumentsOf, kindsOf, outOfRange, absent, mismatched};
 ghost use Rattle.table.specs.View.{policyOf};
 ghost use Rattle.table.specs.Facts.{Table};
@@ -93,16 +92,6 @@ pub fn required(operation: u32) -> [[u32; 3]; 2]
         [[ASSOC_FROM, ASSOC_TO, 0], [0, 0, 0]],
     ];
     capabilities[operation as usize]
-}
-
-// i is an id of a process, 1 to 255.
-pub fn is_process_id(i: u32) -> bool
-    ensures { λ r. ⌜ r ≡ isProcessId i ⌝ }
-{
-    if i < 1 {
-        return false;
-    }
-    i <= 255
 }
 
 // n is the number of an operation, 1 to 9.
@@ -198,7 +187,7 @@ fn are_wrong(mem: &[u32], q: Request) -> bool
 fn is_out_of_range(q: Request) -> bool
     ensures { λ r. ⌜ r ≡ outOfRange (requestOf q) ⌝ }
 {
-    if !is_process_id(q.process) {
+    if !table::is_process_id(q.process) {
         return true;
     }
     if !is_operation(q.operation) {

@@ -1,4 +1,3 @@
-pub mod Loops
 pub mod Sighted
 pub mod Parts
 pub mod Ranges

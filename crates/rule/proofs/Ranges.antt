@@ -13,7 +13,7 @@ use Rattle.table.specs.Layout.{word, prohibitionStart}
 use Rattle.table.specs.View.{inclusionCount, exclusionCount, prohibitionAt}
 use Rattle.table.specs.Facts.{AtMost}
 use Rattle.rule.specs.Parts.{anyListed}
-use Rattle.rule.proofs.Loops.{any-none, any-not-yet, any-found, any-end, any-alike, all-unless, none-unless}
+use Rattle.table.proofs.Loops.{any-none, any-not-yet, any-found, any-end, any-alike, all-unless, none-unless}
 
 -- the row says so of an id, or says not so
 abbrev says : (E : ℕ → Bool) (so : Bool) → ℕ → Bool

@@ -11,7 +11,7 @@ use Rattle.model.specs.Policy.{Policy, Prohibition, hasRight}
 use Rattle.model.specs.Rule.{inRange, isSubject, restricts, restrictedBy}
 use Rattle.table.specs.Layout.{prohibitionCount}
 use Rattle.table.specs.View.{prohibitionsOf, policyOf, prohibitionAt}
-use Rattle.rule.proofs.Loops.{any-none, any-not-yet, any-found, any-end}
+use Rattle.table.proofs.Loops.{any-none, any-not-yet, any-found, any-end}
 
 -- whose prohibition it is, by the sort
 module _ (U : ℕ → Bool) (process u : ℕ) (b : Prohibition) {s : ℕ} (sort : s ≡ b .sort) {j : ℕ} (subject : j ≡ b .subject) where

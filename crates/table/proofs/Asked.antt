@@ -7,7 +7,7 @@ use Prim.Native.Nat.{ℕ, _≤_, _<_}
 use native.Mathlib.Omega.{arith}
 use borrow.Author.Tests.{le-leb, lt-leb, leb-true, not-true, not-false}
 use lib.Dec.{eqb, leb}
-use Rattle.model.specs.Policy.{Policy, isElementId, kindOf, isThere, isAssigned}
+use Rattle.model.specs.Policy.{Policy, isElementId, isProcessId, kindOf, isThere, isAssigned}
 use Rattle.model.proofs.Truth.{and-left, and-right}
 use Rattle.table.specs.View.{holdsTable, policyOf}
 use Rattle.table.specs.Facts.{Table}
@@ -22,6 +22,16 @@ id-zero x h = simp (lt-leb 1 x h)
 pub id-rest : (x : ℕ) → 1 ≤ x → leb x 511 ≡ isElementId x
 unfolding isElementId
 id-rest x h = simp (le-leb 1 x h)
+
+-- 0 is no id of a process
+pub process-zero : (i : ℕ) → i < 1 → false ≡ isProcessId i
+unfolding isProcessId
+process-zero i h = simp (lt-leb 1 i h)
+
+-- any other number is one exactly if it is at most 255
+pub process-rest : (i : ℕ) → 1 ≤ i → leb i 255 ≡ isProcessId i
+unfolding isProcessId
+process-rest i h = simp (le-leb 1 i h)
 
 -- an element is there exactly if its kind is not 0
 pub there-is : (p : Policy) (x : ℕ) {k : ℕ} → k ≡ kindOf p x → not (eqb k 0) ≡ isThere p x

@@ -7,3 +7,4 @@ pub mod Asked
 pub mod Listed
 pub mod Empty
 pub mod Outcomes
+pub mod Loops

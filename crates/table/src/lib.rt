@@ -3,7 +3,7 @@ ghost use mathlib.Core.Path.{_≡_};
 ghost use mathlib.Core.Bool.{_&&_};
 ghost use Prim.Native.Nat.{_+_, _-_, _≤_, _<_};
 ghost use lib.ListN.{length};
-ghost use Rattle.model.specs.Policy.{isElementId, kindOf, isThere, userOf, isAssigned};
+ghost use Rattle.model.specs.Policy.{isElementId, isProcessId, kindOf, isThere, userOf, isAssigned};
 ghost use Rattle.table.specs.Layout.{word, assignmentCount, associationCount, prohibitionCount, prohibitionStart};
 ghost use Rattle.table.specs.View.{areRising, areSmall, areZero, areTidy, holdsTable, isTidy, policyOf, inclusionCount, exclusionCount, assignmentAt, associationAt, prohibitionAt};
 ghost use Rattle.table.specs.Answers.{left, newTable};
@@ -81,6 +81,16 @@ pub fn are_element_ids(x: u32, y: u32) -> bool
         return false;
     }
     is_element_id(y)
+}
+
+// i is an id of a process, 1 to 255.
+pub fn is_process_id(i: u32) -> bool
+    ensures { λ r. ⌜ r ≡ isProcessId i ⌝ }
+{
+    if i < 1 {
+        return false;
+    }
+    i <= 255
 }
 
 // Element x is there.

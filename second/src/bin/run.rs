@@ -1,7 +1,7 @@
 //! Prints what the second program answers: `desk` as the desk program does, `house` the cases K1 to K12,
 //! `leaves` as the program `try_leaves` does, `leaves-script` the script that is stored for it; `decisions` and
-//! `decisions-script` are those of the program `try_decide`, and `bench-script` makes a script that asks one request many
-//! times.
+//! `decisions-script` are those of the program `try_decide`, `histories` and `histories-script` those of `try_command`, and
+//! `bench-script` makes a script that asks one request many times.
 
 use std::io::{self, Read, Write};
 use std::process::ExitCode;
@@ -15,10 +15,13 @@ fn main() -> ExitCode {
         ["leaves-script"] => print(&second::leaves_script()),
         ["decisions"] => answer(second::decisions),
         ["decisions-script"] => print(&second::decisions_script()),
+        ["histories"] => answer(second::histories),
+        ["histories-script"] => print(&second::histories_script()),
         ["bench-script", table, answer, way, times] => bench_script(table, answer, way, times),
         _ => {
             eprintln!("usage: second-run desk < input | house | leaves < script | leaves-script | decisions < script");
-            eprintln!("       | decisions-script | bench-script TABLE granted|denied plain|indexed TIMES");
+            eprintln!("       | decisions-script | histories < script | histories-script");
+            eprintln!("       | bench-script TABLE granted|denied plain|indexed TIMES");
             return ExitCode::from(2);
         }
     };

@@ -6,7 +6,7 @@ use Rattle.request.proofs.is_out_of_range.Reads as reads
 use Rattle.request.proofs.is_out_of_range.Lts as lts
 use Rattle.request.proofs.are_bad.Reads as are-bad-reads
 use Rattle.request.proofs.is_operation.Reads as is-operation-reads
-use Rattle.request.proofs.is_process_id.Reads as is-process-id-reads
+use Rattle.table.proofs.is_process_id.Reads as is-process-id-reads
 
 is-process-id-requires : tie.Need-is-process-id-requires
 is-process-id-requires c κs = search needs

@@ -1,0 +1,3 @@
+pub mod Single
+pub mod Mentions
+pub mod Owned

@@ -1,0 +1,5 @@
+pub mod Passed
+pub mod Subjects
+pub mod Refused
+pub mod TooLong
+pub mod Whole

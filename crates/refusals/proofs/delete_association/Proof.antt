@@ -1,0 +1,76 @@
+use Rattle.model.specs.Command.{commandLines}
+use Rattle.model.specs.Sound.{associationPairs}
+use Rattle.table.proofs.Asked.{tested}
+use Rattle.refusals.specs.Numbers.{refusalOf}
+use Rattle.refusals.proofs.Lines.{lines}
+use Rattle.refusals.proofs.Ranges.{range-either, first-id, second-id}
+use borrow.Author.Needs.{needs}
+use Rattle.refusals.proofs.delete_association.Statement.{statement}
+use Rattle.refusals.proofs.delete_association.Tie as tie
+use Rattle.refusals.proofs.delete_association.Reads as reads
+use Rattle.refusals.proofs.delete_association.Lts as lts
+use Rattle.refusals.proofs.is_empty.Reads as is-empty-reads
+use Rattle.refusals.proofs.is_out_of_range.Reads as is-out-of-range-reads
+use Rattle.refusals.proofs.lacks_association.Reads as lacks-association-reads
+use Rattle.refusals.proofs.may_be_associated.Reads as may-be-associated-reads
+use Rattle.refusals.proofs.are_bad_ids.Reads as are-bad-ids-reads
+use Rattle.table.proofs.holds.Reads as holds-reads
+
+holds-requires : tie.Need-holds-requires
+holds-requires c κs = search needs
+
+returns : tie.Need-returns
+unfolding refusalOf commandLines
+returns c = search lines
+
+are-bad-ids-requires : tie.Need-are-bad-ids-requires
+are-bad-ids-requires c κs = search needs
+
+is-out-of-range-requires : tie.Need-is-out-of-range-requires
+is-out-of-range-requires c κs = search needs
+
+returns-2 : tie.Need-returns-2
+unfolding refusalOf commandLines
+returns-2 c = search (lines, range-either) depth 8
+
+lacks-association-requires : tie.Need-lacks-association-requires
+lacks-association-requires c κs = (search tested, (search first-id, search second-id))
+
+returns-3 : tie.Need-returns-3
+unfolding refusalOf commandLines
+returns-3 c = search (lines, range-either) depth 8
+
+may-be-associated-requires : tie.Need-may-be-associated-requires
+may-be-associated-requires c κs = search tested
+
+returns-4 : tie.Need-returns-4
+unfolding refusalOf commandLines associationPairs
+returns-4 c = search (lines, range-either) depth 8
+
+is-empty-requires : tie.Need-is-empty-requires
+is-empty-requires c κs = search needs
+
+returns-5 : tie.Need-returns-5
+unfolding refusalOf commandLines associationPairs
+returns-5 c = search (lines, range-either) depth 8
+
+returns-6 : tie.Need-returns-6
+unfolding refusalOf commandLines associationPairs
+returns-6 c = search (lines, range-either) depth 8
+
+pub delete-association-spec : {M : Type 1} → statement M
+delete-association-spec =
+    tie.close
+    (tie.spec
+    holds-requires
+    returns
+    are-bad-ids-requires
+    is-out-of-range-requires
+    returns-2
+    lacks-association-requires
+    returns-3
+    may-be-associated-requires
+    returns-4
+    is-empty-requires
+    returns-5
+    returns-6)
