@@ -210,6 +210,7 @@ pub fn histories_script() -> Vec<u8> {
     cycles(&mut script, &mut random);
     out_of_range_first(&mut script);
     no_rights(&mut script);
+    absent_subject(&mut script);
     unsound(&mut script, &mut random);
     random_histories(&mut script, &mut random);
     years(&mut script);
@@ -688,6 +689,15 @@ fn no_rights(script: &mut Script) {
     script.word(ASSOCIATIONS.start + 1, 0);
     script.run_all([permit([1, 5, 1, 0], &[7], &[8]), permit([1, 5, 1, 1], &[7], &[8])]);
     script.run_all([dissociate(3, 7, 0), dissociate(3, 7, 3), prohibit([1, 5, 1, 0], &[7], &[8])]);
+    script.list();
+}
+
+/// A prohibition that stands and names a process that is not there: ending that process is refused with 4, not with 9.
+fn absent_subject(script: &mut Script) {
+    furnish(script);
+    script.run_all([prohibit([2, 2, 0, 5], &[7], &[8]), end(2)]);
+    script.word(USERS + 2, 0);
+    script.run_all([end(2), start(2, 6), end(2)]);
     script.list();
 }
 

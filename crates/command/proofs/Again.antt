@@ -22,9 +22,9 @@ use Rattle.table.proofs.Test.{of-table}
 use Rattle.table.proofs.ById.{kind-is, user-is}
 use Rattle.store.specs.Words.{withKind, withUser}
 use Rattle.store.proofs.Assigned.{assignments-less-table}
+use Rattle.refusals.proofs.Limits.{assignment-count, association-count, prohibition-count}
 use Rattle.command.specs.Commanded.{wordsAfter, Commanded}
 use Rattle.command.proofs.Accepted.{Id, ProcessId, old-assignment, old-element, old-association, old-prohibition, old-process}
-use Rattle.command.proofs.Policies.{assignment-count, association-count, prohibition-count}
 use Rattle.command.proofs.Theorems.{done-exact, went, table-stays, length-stays}
 
 -- where some pass, the list less the first that does is shorter by one

@@ -24,9 +24,10 @@ use Rattle.store.specs.ProhibitionWords.{Storable, withoutProhibition, addedPro
 use Rattle.store.proofs.Assigned.{assignments-less-table}
 use Rattle.refusals.specs.Numbers.{refusalOf}
 use Rattle.refusals.proofs.Accepts.{accepts-none, refuses-first}
+use Rattle.refusals.proofs.Limits.{assignment-count, association-count, prohibition-count}
 use Rattle.command.specs.Commanded.{wordsAfter, Commanded}
 use Rattle.command.proofs.Accepted.{new-class, NewElement, new-element, NewAssignment, new-assignment, old-assignment, old-element, NewAssociation, new-association, OldAssociation, old-association, NewProhibition, new-prohibition, old-prohibition, new-process, old-process}
-use Rattle.command.proofs.Policies.{assignment-count, association-count, prohibition-count, first-table, still-unassigned, still-room, holds-after}
+use Rattle.command.proofs.Policies.{first-table, still-unassigned, still-room, holds-after}
 use Rattle.command.proofs.Performed.{Accepted, accepted-call, refused-so, done-so}
 
 -- an association, by its fields

@@ -11,31 +11,17 @@ use Rattle.model.specs.Lists.{lessFirst, put}
 use Rattle.model.specs.Policy.{Policy, class, isElementId, isKind, elementKey, assignmentFields, withElements, withAssignments, isAssigned}
 use Rattle.model.specs.Refusal.{None, proper}
 use Rattle.model.specs.Command.{Command, create-class, create-element, assign, deassign, delete-element, create-association, delete-association, create-prohibition, delete-prohibition, start-process, end-process, commandLines, after}
-use Rattle.model.proofs.Indexed.{length-tabulate}
 use Rattle.table.specs.Layout.{word}
-use Rattle.table.specs.View.{assignmentAt, associationAt, prohibitionAt, assignmentsOf, associationsOf, prohibitionsOf, policyOf}
+use Rattle.table.specs.View.{policyOf}
 use Rattle.table.specs.Facts.{Table}
 use Rattle.store.specs.Words.{withKind, withAssignment, withoutAssignmentsOf}
 use Rattle.store.proofs.Ids.{kind-table, kind-put, kind-less, user-table, user-put, user-less}
 use Rattle.store.proofs.Assigned.{assignment-put, assignment-put-table, assignment-less, assignment-less-table, assignments-less, assignments-less-table}
 use Rattle.store.proofs.Associated.{association-put, association-put-table, association-less, association-less-table}
 use Rattle.store.proofs.Prohibited.{prohibition-put, prohibition-put-table, prohibition-less, prohibition-less-table}
+use Rattle.refusals.proofs.Limits.{assignment-count, association-count, prohibition-count}
 use Rattle.command.specs.Commanded.{wordsAfter}
 use Rattle.command.proofs.Accepted.{Id, new-class, NewElement, new-element, new-assignment, old-assignment, old-element, new-association, old-association, new-prohibition, old-prohibition, new-process, old-process}
-
--- A group has as many records as its counter says.
-module _ (mem : List ℕ) where
-  pub assignment-count : length (policyOf mem .assignments) ≡ word mem 1
-  unfolding policyOf assignmentsOf
-  assignment-count = length-tabulate (word mem 1) (assignmentAt mem)
-
-  pub association-count : length (policyOf mem .associations) ≡ word mem 2
-  unfolding policyOf associationsOf
-  association-count = length-tabulate (word mem 2) (associationAt mem)
-
-  pub prohibition-count : length (policyOf mem .prohibitions) ≡ word mem 3
-  unfolding policyOf prohibitionsOf
-  prohibition-count = length-tabulate (word mem 3) (prohibitionAt mem)
 
 -- A table, and the policy that it is.
 pub record Holds (mem : List ℕ) (p : Policy) : Type 0 where

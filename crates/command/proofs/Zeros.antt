@@ -29,9 +29,10 @@ use Rattle.store.proofs.Assigned.{assignments-fit}
 use Rattle.store.proofs.Associated.{associations-fit}
 use Rattle.store.proofs.Recorded.{storable-narrow, length-record}
 use Rattle.store.proofs.Prohibited.{prohibitions-fit}
+use Rattle.refusals.proofs.Limits.{assignment-count, association-count, prohibition-count}
 use Rattle.command.specs.Commanded.{wordsAfter}
 use Rattle.command.proofs.Accepted.{new-class, new-element, new-assignment, old-element, new-association, new-prohibition, old-prohibition, new-process, old-process}
-use Rattle.command.proofs.Policies.{assignment-count, association-count, prohibition-count, first-table, still-room}
+use Rattle.command.proofs.Policies.{first-table, still-room}
 
 -- each word behind the assignments, the associations and the prohibitions is 0
 pub record Zeros (mem : List ℕ) : Type 0 where
