@@ -3,7 +3,8 @@
 use crate::command::Machine;
 use crate::decide::{decide, Answer};
 use crate::explain::explain;
-use crate::policy::{OBJECT, OBJECT_ATTRIBUTE, USER, USER_ATTRIBUTE};
+use crate::image::WrittenProhibition;
+use crate::policy::{Policy, OBJECT, OBJECT_ATTRIBUTE, USER, USER_ATTRIBUTE};
 
 /// The small house, made by commands.
 pub fn small_house() -> Machine {
@@ -30,6 +31,41 @@ fn build(house: &mut Machine) -> Result<(), u32> {
     house.create_association(4, 0b01, 8)?;
     house.start_process(1, 5)?;
     house.start_process(2, 6)
+}
+
+/// The house with prohibitions of every sort and of both forms, and lists of four.
+pub fn furnished() -> Policy {
+    let mut house = small_house();
+    let given = [
+        house.create_prohibition(1, 5, 1, 0b1, &[7], &[8]),
+        house.create_prohibition(1, 5, 1, 0b1, &[], &[3]),
+        house.create_prohibition(2, 1, 0, 0x8000_0000, &[7, 8], &[]),
+        house.create_prohibition(3, 4, 0, 0b10, &[3, 7, 8, 511], &[3, 9]),
+    ];
+    assert_eq!(given, [Ok(()); 4]);
+    house.policy
+}
+
+/// Prohibitions of one subject in the image's order: their counts stand before their ids.
+pub fn rising_prohibitions() -> [WrittenProhibition; 8] {
+    let list = |inclusions: &[u32], exclusions: &[u32]| WrittenProhibition {
+        sort: 1,
+        subject: 5,
+        form: 0,
+        rights: 1,
+        inclusions: inclusions.to_vec(),
+        exclusions: exclusions.to_vec(),
+    };
+    [
+        list(&[], &[8]),
+        list(&[], &[3, 4]),
+        list(&[3], &[]),
+        list(&[8], &[]),
+        list(&[3], &[9]),
+        list(&[4], &[3]),
+        list(&[3, 4], &[]),
+        list(&[3, 7], &[]),
+    ]
 }
 
 /// One line of the table: the case, what is done, what 01 says, what was found.

@@ -5,7 +5,7 @@
 //! assignments, one sentence of 01 after the other.
 //!
 //! Arguments of calls are `u32`, so that numbers out of range can be tried. A refusal is 01's number.
-//! Refusal 1 speaks of working memory; this program has none, so only `leaves`, `decisions` and `histories` give it, where a
+//! Refusal 1 speaks of working memory; this program has none, so only `leaves`, `decisions`, `histories` and `images` give it, where a
 //! script says so: `words` reads memory as the project's pages publish it.
 
 pub mod bench;
@@ -18,6 +18,8 @@ pub mod histories;
 mod histories_script;
 pub mod house;
 pub mod image;
+pub mod images;
+mod images_script;
 pub mod index;
 pub mod leaves;
 pub mod make;
@@ -35,6 +37,8 @@ pub use explain::{explain, explain_into, Explanation, Row};
 pub use histories::histories;
 pub use histories_script::histories_script;
 pub use image::{load, save, save_into};
+pub use images::images;
+pub use images_script::{damaged_script, images_script};
 pub use index::{build_index, build_index_into, is_index};
 pub use leaves::{leaves, leaves_script};
 pub use policy::{contains, Policy, Prohibition};

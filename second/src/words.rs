@@ -4,6 +4,7 @@
 //! Memory of the right shape denotes a policy, sound or not. A number above 511 where an id stands is no
 //! element's; the policy has a stand-in for it, also above 511, and `Table` knows the number itself.
 
+use crate::image::{Written, WrittenProhibition, FORM_1};
 use crate::policy::{Policy, Prohibition};
 
 /// A table has 8,192 words.
@@ -170,6 +171,40 @@ pub fn table(words: &[u32]) -> Table {
         }
     }
     table
+}
+
+/// The fields of the image of the table that words hold: the numbers as they stand in the words, sound or not.
+pub fn written(words: &[u32]) -> Written {
+    let prohibition = |record: &[u32]| {
+        let listed = |from: u32, count: u32| record[3 + from as usize..][..count as usize].to_vec();
+        let (inclusions, exclusions) = (record[2] / 8, record[2] % 8);
+        WrittenProhibition {
+            sort: record[0] / 1024,
+            subject: record[0] / 2 % IDS,
+            form: record[0] % 2,
+            rights: record[1],
+            inclusions: listed(0, inclusions),
+            exclusions: listed(inclusions, exclusions),
+        }
+    };
+    let by_id = |start: usize, ids: u32, values: std::ops::Range<u32>| -> Vec<(u32, u32)> {
+        let all = (1..ids).map(|id| (id, words[start + id as usize]));
+        all.filter(|(_, value)| values.contains(value)).collect()
+    };
+    let mut fields = Written {
+        form: FORM_1,
+        counts: [0; 5],
+        elements: by_id(KINDS, IDS, 1..6),
+        assignments: ASSIGNMENTS.records(words).map(|record| (record[0] / IDS, record[0] % IDS)).collect(),
+        associations: ASSOCIATIONS
+            .records(words)
+            .map(|record| (record[0] / IDS, record[0] % IDS, record[1]))
+            .collect(),
+        prohibitions: PROHIBITIONS.records(words).map(prohibition).collect(),
+        processes: by_id(USERS, 256, 1..IDS),
+    };
+    fields.count();
+    fields
 }
 
 /// Writes the table of a policy. Its groups stand in the image's order, with zeros behind the last record; words that no

@@ -1,19 +1,9 @@
 //! What load refuses, and with which number.
 
-use second::house::small_house;
+use second::house::{furnished, rising_prohibitions, small_house};
 use second::image::{Written, WrittenProhibition};
 use second::make::flip;
 use second::{load, save, Policy};
-
-/// The house with prohibitions of every sort, and a few more things to name.
-fn furnished() -> Policy {
-    let mut house = small_house();
-    house.create_prohibition(1, 5, 1, 0b1, &[7], &[8]).unwrap();
-    house.create_prohibition(1, 5, 1, 0b1, &[], &[3]).unwrap();
-    house.create_prohibition(2, 1, 0, 0x8000_0000, &[7, 8], &[]).unwrap();
-    house.create_prohibition(3, 4, 0, 0b10, &[3, 7, 8, 511], &[3, 9]).unwrap();
-    house.policy
-}
 
 /// The house's assignments in the image's order.
 const ASSIGNMENTS: [(u32, u32); 11] =
@@ -260,24 +250,7 @@ fn thirteen_order() {
 /// Prohibitions compare their counts before their ids.
 #[test]
 fn prohibitions_rise_as_written() {
-    let list = |inclusions: &[u32], exclusions: &[u32]| WrittenProhibition {
-        sort: 1,
-        subject: 5,
-        form: 0,
-        rights: 1,
-        inclusions: inclusions.to_vec(),
-        exclusions: exclusions.to_vec(),
-    };
-    let rising = [
-        list(&[], &[8]),
-        list(&[], &[3, 4]),
-        list(&[3], &[]),
-        list(&[8], &[]),
-        list(&[3], &[9]),
-        list(&[4], &[3]),
-        list(&[3, 4], &[]),
-        list(&[3, 7], &[]),
-    ];
+    let rising = rising_prohibitions();
     let put = |records: &[WrittenProhibition]| loading(|image| image.prohibitions = records.to_vec());
     let policy = put(&rising).unwrap();
     assert_eq!(Written::of(&policy).prohibitions, rising);

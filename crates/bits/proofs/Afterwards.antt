@@ -10,10 +10,10 @@ use native.Mathlib.Omega.{arith}
 use lib.ListN.{length}
 use Rattle.model.specs.Bits.{bitsN, bitsOf, numAt}
 use Rattle.model.specs.Refusal.{accepted, answer}
-use Rattle.model.proofs.Image.Bits.{length-bitsN, length-bitsOf, num-low}
+use Rattle.model.proofs.Image.Bits.{length-bitsN, length-bitsOf, num-low, spelled-lt}
 use Rattle.bits.specs.Cursor.{reading, written, There, Taken, Written}
 use Rattle.bits.proofs.Spelling.{numbers-join}
-use Rattle.bits.proofs.Places.{reads-join, read-lt, length-written, at-written, before-written, after-written, writes-join, writes-apart}
+use Rattle.bits.proofs.Places.{reads-join, length-written, at-written, before-written, after-written, writes-join, writes-apart}
 use Rattle.bits.proofs.Answers.{read-there}
 
 -- the n low bits of v, where they were just written, spell v's remainder by 2 ^ n
@@ -56,7 +56,7 @@ pub taken-join : (s : List ℕ) (at m k v w mid next : ℕ) → at + (m + k) ≤
 taken-join s at m k v w mid next h a b =
     let room : at + (m + k) ≤ length (bitsOf s) = rw (length-bitsOf s) h in
     let e : v * 2 ^ k + w ≡ numAt (bitsOf s) at (m + k) = rw (a .value-is, b .value-is, a .next-is) (sym (reads-join (bitsOf s) at m k room)) in
-    record { value-is = e; next-is = omega arith; small = rw e (read-lt (bitsOf s) at (m + k) room) }
+    record { value-is = e; next-is = omega arith; small = rw e (spelled-lt (bitsOf s) at (m + k)) }
 
 -- two neighbouring numbers that are written are one
 pub written-join : (s t u : List ℕ) (at m k v w mid next : ℕ) → at + (m + k) ≤ 8 * length s → w < 2 ^ k → Written s t at m v mid → Written t u mid k w next

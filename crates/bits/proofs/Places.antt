@@ -3,13 +3,12 @@
 use mathlib.Core.Path.{_≡_, refl, sym, ap, _∙_}
 use mathlib.Core.Bool.{Bool}
 use mathlib.Core.List.{List, [], _++_, append-assoc}
-use Prim.Native.Nat.{ℕ, _+_, _-_, _*_, _^_, _≤_, _<_}
+use Prim.Native.Nat.{ℕ, _+_, _-_, _*_, _^_, _≤_}
 use native.Mathlib.Nat.{add-assoc, add-zero}
 use native.Mathlib.Omega.{arith}
 use lib.ListN.{length, take, drop, length-append, length-drop, take-append-drop}
 use lib.Seq.{length-take-le, take-at, drop-at, take-add, drop-drop, take-append-le, drop-append-le}
 use Rattle.model.specs.Bits.{numOf, numAt}
-use Rattle.model.proofs.Image.Bits.{num-lt}
 use Rattle.bits.specs.Cursor.{written}
 use Rattle.bits.proofs.Spelling.{num-append}
 
@@ -30,11 +29,6 @@ pub reads-join : (l : List Bool) (at m k : ℕ) → at + (m + k) ≤ length l �
 unfolding numAt
 reads-join l at m k h =
     rw (take-add m k (drop at l), drop-drop m at l, num-append (take m (drop at l)) (take k (drop (at + m) l)), length-part l (at + m) k (omega arith))
-
--- what n bits spell is below 2 ^ n
-pub read-lt : (l : List Bool) (at n : ℕ) → at + n ≤ length l → numAt l at n < 2 ^ n
-unfolding numAt
-read-lt l at n h = rw (length-part l at n h) at (num-lt (take n (drop at l)))
 
 -- no bits spell 0
 pub read-none : (l : List Bool) (at : ℕ) → numAt l at 0 ≡ 0

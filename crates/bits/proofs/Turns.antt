@@ -12,10 +12,10 @@ use lib.ListN.{length, getD, set, length-set}
 use lib.Arith.{digits-lt}
 use lib.Pow.{pow-pos, pow-mono, pow-add, shl-exact, shr-shr}
 use Rattle.model.specs.Bits.{bitsN, bitsOf, numAt}
-use Rattle.model.proofs.Image.Bits.{areBytes, length-bitsN, split, length-bitsOf, bytes-of-bits, bytes-are}
+use Rattle.model.proofs.Image.Bits.{areBytes, length-bitsN, split, length-bitsOf, bytes-of-bits, bytes-are, spelled-lt}
 use Rattle.bits.specs.Cursor.{written, There, Taken, Written}
 use Rattle.bits.proofs.Spelling.{low}
-use Rattle.bits.proofs.Places.{reads-join, read-lt, read-none, write-none, writes-join}
+use Rattle.bits.proofs.Places.{reads-join, read-none, write-none, writes-join}
 use Rattle.bits.proofs.InBytes.{patched, upper-lt, patched-lt, read-byte, write-byte, bytes-known, bytes-set}
 
 -- 1 shifted by less than 32 bits stays whole
@@ -83,7 +83,7 @@ take-turn s at n left value p t w c value′ some there before pos part more w-i
     read-byte s (p / 8) (p % 8) t (8 - p % 8 - t) (omega arith) (omega arith) in
     let v : value′ ≡ numAt (bitsOf s) at (n - (left - t)) =
     rw (value-is, before .value-is, c-is, w-is, e1, ← r, e2) (sym (reads-join (bitsOf s) at m t (omega arith))) in
-    record { value-is = v; next-is = omega arith; small = rw v (read-lt (bitsOf s) at (n - (left - t)) (omega arith)) }
+    record { value-is = v; next-is = omega arith; small = rw v (spelled-lt (bitsOf s) at (n - (left - t))) }
 
 -- After the last turn all are taken.
 pub take-end : (s : List ℕ) (at n left value p : ℕ) → left ≤ 0 → Taken s at (n - left) value p → Taken s at n value p

@@ -22,7 +22,7 @@ use Rattle.table.proofs.Test.{of-table}
 use Rattle.table.proofs.ById.{kind-is, user-is}
 use Rattle.store.specs.Words.{withKind, withUser}
 use Rattle.store.proofs.Assigned.{assignments-less-table}
-use Rattle.refusals.proofs.Limits.{assignment-count, association-count, prohibition-count}
+use Rattle.table.proofs.Counted.{assignments-long, associations-long, prohibitions-long}
 use Rattle.command.specs.Commanded.{wordsAfter, Commanded}
 use Rattle.command.proofs.Accepted.{Id, ProcessId, old-assignment, old-element, old-association, old-prohibition, old-process}
 use Rattle.command.proofs.Theorems.{done-exact, went, table-stays, length-stays}
@@ -78,7 +78,7 @@ module _ {mem idx mem′ idx′ : List ℕ} where
       let e = old-assignment (policyOf mem) (w .found .lines) in
       let l = ap (λ (p : Policy). suc (length (p .assignments))) (w .policy)
       ∙ less-one (λ a. eqb x (a .child) && eqb y (a .container)) (policyOf mem .assignments) (e .assigned) in
-      (l, lt-leb 2000 (length (policyOf mem′ .assignments)) (omega (arith, assignment-count mem, w .found .table .few-assignments)))
+      (l, lt-leb 2000 (length (policyOf mem′ .assignments)) (omega (arith, assignments-long mem, w .found .table .few-assignments)))
 
   -- after an accepted delete association, one association less
   pub association-room-again : {a : Association} → Commanded mem idx (delete-association a) Done mem′ idx′
@@ -89,7 +89,7 @@ module _ {mem idx mem′ idx′ : List ℕ} where
       let e = old-association (policyOf mem) (w .found .lines) in
       let l = ap (λ (p : Policy). suc (length (p .associations))) (w .policy)
       ∙ less-one (λ b. same (associationFields a) (associationFields b)) (policyOf mem .associations) (e .there) in
-      (l, lt-leb 1000 (length (policyOf mem′ .associations)) (omega (arith, association-count mem, w .found .table .few-associations)))
+      (l, lt-leb 1000 (length (policyOf mem′ .associations)) (omega (arith, associations-long mem, w .found .table .few-associations)))
 
   -- after an accepted delete prohibition, one prohibition less
   pub prohibition-room-again : {b : Prohibition} → Commanded mem idx (delete-prohibition b) Done mem′ idx′
@@ -100,7 +100,7 @@ module _ {mem idx mem′ idx′ : List ℕ} where
       let e = old-prohibition (policyOf mem) (w .found .lines) in
       let l = ap (λ (p : Policy). suc (length (p .prohibitions))) (w .policy)
       ∙ less-one (λ c. same (prohibitionFields b) (prohibitionFields c)) (policyOf mem .prohibitions) (e .there) in
-      (l, lt-leb 200 (length (policyOf mem′ .prohibitions)) (omega (arith, prohibition-count mem, w .found .table .few-prohibitions)))
+      (l, lt-leb 200 (length (policyOf mem′ .prohibitions)) (omega (arith, prohibitions-long mem, w .found .table .few-prohibitions)))
 
   -- so a class can be created with the id of a deleted element, on the words and the index that deleting it left
   pub class-again : {x : ℕ} → Commanded mem idx (delete-element x) Done mem′ idx′

@@ -24,7 +24,7 @@ use Rattle.store.specs.ProhibitionWords.{Storable, withoutProhibition, addedPro
 use Rattle.store.proofs.Assigned.{assignments-less-table}
 use Rattle.refusals.specs.Numbers.{refusalOf}
 use Rattle.refusals.proofs.Accepts.{accepts-none, refuses-first}
-use Rattle.refusals.proofs.Limits.{assignment-count, association-count, prohibition-count}
+use Rattle.table.proofs.Counted.{assignments-long, associations-long, prohibitions-long}
 use Rattle.command.specs.Commanded.{wordsAfter, Commanded}
 use Rattle.command.proofs.Accepted.{new-class, NewElement, new-element, NewAssignment, new-assignment, old-assignment, old-element, NewAssociation, new-association, OldAssociation, old-association, NewProhibition, new-prohibition, old-prohibition, new-process, old-process}
 use Rattle.command.proofs.Policies.{first-table, still-unassigned, still-room, holds-after}
@@ -131,7 +131,7 @@ module _ (mem : List ℕ) where
     module _ (r : Outcome) {mem′ : List ℕ} (v : left r mem′ ≡ addedAssignment x y mem) where
       assign-words : mem′ ≡ wordsAfter mem (assign x y)
       unfolding wordsAfter
-      assign-words = room-taken r mem (leb 2000 (word mem 1)) (lt-leb 2000 (word mem 1) (omega (arith, assignment-count mem, assigns .room))) v
+      assign-words = room-taken r mem (leb 2000 (word mem 1)) (lt-leb 2000 (word mem 1) (omega (arith, assignments-long mem, assigns .room))) v
 
       pub assign-table : Table mem′
       assign-table = made size (assign x y) e h assign-words
@@ -200,7 +200,7 @@ module _ (mem : List ℕ) where
     unfolding wordsAfter changesContainment
     association-done r v =
         let f = new-association (policyOf mem) (accepted (length idx) (create-association a) e h .lines) in
-        let room : word mem 2 < 1000 = omega (arith, association-count mem, f .room) in
+        let room : word mem 2 < 1000 = omega (arith, associations-long mem, f .room) in
         done-left idx (create-association a) e h (room-taken r mem (leb 1000 (word mem 2)) (lt-leb 1000 (word mem 2) room) v) refl
 
   -- Delete association.
@@ -233,7 +233,7 @@ module _ (mem : List ℕ) where
         → Commanded mem idx (create-prohibition b) Done mem′ idx
     unfolding wordsAfter changesContainment
     prohibition-done r v =
-        let room : word mem 3 < 200 = omega (arith, prohibition-count mem, prohibits (length idx) b e h .room) in
+        let room : word mem 3 < 200 = omega (arith, prohibitions-long mem, prohibits (length idx) b e h .room) in
         done-left idx (create-prohibition b) e h (room-taken r mem (leb 200 (word mem 3)) (lt-leb 200 (word mem 3) room) v) refl
 
   -- Delete prohibition.

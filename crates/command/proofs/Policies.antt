@@ -19,7 +19,7 @@ use Rattle.store.proofs.Ids.{kind-table, kind-put, kind-less, user-table, user-
 use Rattle.store.proofs.Assigned.{assignment-put, assignment-put-table, assignment-less, assignment-less-table, assignments-less, assignments-less-table}
 use Rattle.store.proofs.Associated.{association-put, association-put-table, association-less, association-less-table}
 use Rattle.store.proofs.Prohibited.{prohibition-put, prohibition-put-table, prohibition-less, prohibition-less-table}
-use Rattle.refusals.proofs.Limits.{assignment-count, association-count, prohibition-count}
+use Rattle.table.proofs.Counted.{assignments-long, associations-long, prohibitions-long}
 use Rattle.command.specs.Commanded.{wordsAfter}
 use Rattle.command.proofs.Accepted.{Id, new-class, NewElement, new-element, new-assignment, old-assignment, old-element, new-association, old-association, new-prohibition, old-prohibition, new-process, old-process}
 
@@ -45,7 +45,7 @@ module _ {mem : List ℕ} (t : Table mem) where
 
     -- and there is still room for it
     pub still-room : word (withKind x k mem) 1 < 2000
-    still-room = omega (arith, assignment-count (withKind x k mem), ap (λ (p : Policy). length (p .assignments)) first-policy, e .room)
+    still-room = omega (arith, assignments-long (withKind x k mem), ap (λ (p : Policy). length (p .assignments)) first-policy, e .room)
 
     element-made : Holds (withAssignment x y (withKind x k mem)) (after (policyOf mem) (create-element x k y))
     unfolding after
@@ -80,7 +80,7 @@ module _ {mem : List ℕ} (t : Table mem) where
       let e = new-assignment (policyOf mem) n in
       let lx : x < 512 = omega (arith, e .child .high) in
       let ly : y < 512 = omega (arith, e .container .high) in
-      let few : word mem 1 < 2000 = omega (arith, assignment-count mem, e .room) in
+      let few : word mem 1 < 2000 = omega (arith, assignments-long mem, e .room) in
       record { table = assignment-put-table t x y lx ly few (e .unassigned); policy = assignment-put t x y lx ly few }
   holds-after (deassign x y) n =
       let e = old-assignment (policyOf mem) n in
@@ -91,7 +91,7 @@ module _ {mem : List ℕ} (t : Table mem) where
   holds-after (create-association a) n =
       let e = new-association (policyOf mem) n in
       let h : a .target < 512 = omega (arith, e .target .high) in
-      let few : word mem 2 < 1000 = omega (arith, association-count mem, e .room) in
+      let few : word mem 2 < 1000 = omega (arith, associations-long mem, e .room) in
       record { table = association-put-table a h t few; policy = association-put a h t few }
   holds-after (delete-association a) n =
       let e = old-association (policyOf mem) n in
@@ -99,7 +99,7 @@ module _ {mem : List ℕ} (t : Table mem) where
       record { table = association-less-table a h t; policy = association-less a h t }
   holds-after (create-prohibition b) n =
       let e = new-prohibition (policyOf mem) n in
-      let few : word mem 3 < 200 = omega (arith, prohibition-count mem, e .room) in
+      let few : word mem 3 < 200 = omega (arith, prohibitions-long mem, e .room) in
       record { table = prohibition-put-table t (e .storable) few; policy = prohibition-put t (e .storable) few }
   holds-after (delete-prohibition b) n =
       let e = old-prohibition (policyOf mem) n in

@@ -29,7 +29,7 @@ use Rattle.store.proofs.Assigned.{assignments-fit}
 use Rattle.store.proofs.Associated.{associations-fit}
 use Rattle.store.proofs.Recorded.{storable-narrow, length-record}
 use Rattle.store.proofs.Prohibited.{prohibitions-fit}
-use Rattle.refusals.proofs.Limits.{assignment-count, association-count, prohibition-count}
+use Rattle.table.proofs.Counted.{assignments-long, associations-long, prohibitions-long}
 use Rattle.command.specs.Commanded.{wordsAfter}
 use Rattle.command.proofs.Accepted.{new-class, new-element, new-assignment, old-element, new-association, new-prohibition, old-prohibition, new-process, old-process}
 use Rattle.command.proofs.Policies.{first-table, still-room}
@@ -172,14 +172,14 @@ zeros-after {mem} t (create-class x) n z = kind-zeros x 5 (new-class (policyOf m
 zeros-after {mem} t (create-element x k y) n z =
     let e = new-element (policyOf mem) n in
     assignment-more (first-table t e) (kind-zeros x k (e .id .high) z) x y (still-room t e)
-zeros-after {mem} t (assign x y) n z = assignment-more t z x y (omega (arith, assignment-count mem, new-assignment (policyOf mem) n .room))
+zeros-after {mem} t (assign x y) n z = assignment-more t z x y (omega (arith, assignments-long mem, new-assignment (policyOf mem) n .room))
 zeros-after {mem} t (deassign x y) n z = assignment-out t z x y
 zeros-after {mem} t (delete-element x) n z = kind-zeros x 0 (old-element (policyOf mem) n .high) (assignments-out t z x)
-zeros-after {mem} t (create-association a) n z = association-more t z a (omega (arith, association-count mem, new-association (policyOf mem) n .room))
+zeros-after {mem} t (create-association a) n z = association-more t z a (omega (arith, associations-long mem, new-association (policyOf mem) n .room))
 zeros-after {mem} t (delete-association a) n z = association-out t z a
 zeros-after {mem} t (create-prohibition b) n z =
     let e = new-prohibition (policyOf mem) n in
-    prohibition-more t z (e .storable) (omega (arith, prohibition-count mem, e .room))
+    prohibition-more t z (e .storable) (omega (arith, prohibitions-long mem, e .room))
 zeros-after {mem} t (delete-prohibition b) n z = prohibition-out t z (old-prohibition (policyOf mem) n .storable)
 zeros-after {mem} t (start-process i u) n z = user-zeros i u (new-process (policyOf mem) n .id .high) z
 zeros-after {mem} t (end-process i) n z = user-zeros i 0 (old-process (policyOf mem) n .high) z

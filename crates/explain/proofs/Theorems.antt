@@ -4,13 +4,13 @@ use mathlib.Core.Path.{_≡_, refl, sym, ap, _∙_}
 use mathlib.Core.Bool.{Bool, true}
 use mathlib.Core.List.{List, [], _∷_, _++_, map}
 use mathlib.Core.Logic.{_↔_}
-use Prim.Native.Nat.{ℕ, suc, _+_, _≤_, _<_}
+use Prim.Native.Nat.{ℕ, _+_, _≤_, _<_}
 use native.Mathlib.Omega.{arith}
-use borrow.Author.Tests.{lt-ltb, ltb-true, not-false}
+use borrow.Author.Tests.{ltb-true, not-false}
 use lib.ListN.{length, getD, take, drop}
 use lib.Seq.{take-append-seam, drop-append-seam}
-use Rattle.model.specs.Lists.{In, before, rising}
-use Rattle.model.specs.Policy.{Policy, elementKey}
+use Rattle.model.specs.Lists.{In, rising}
+use Rattle.model.specs.Policy.{Policy}
 use Rattle.model.specs.Contain.{contained}
 use Rattle.model.specs.Refusal.{First, now, next, None, end, past, refused, accepted}
 use Rattle.model.specs.Request.{Request as Asks, alternativesOf, requestLines, grant, deny, Verdict, verdict, decision}
@@ -20,15 +20,14 @@ use Rattle.model.specs.Decided.{Told, Lowest}
 use Rattle.model.specs.RowRule.{rowPlace, GrantRowOf, LowestNamed, DenyRowOf, Why}
 use Rattle.model.specs.Desk.{denyLine, line, D}
 use Rattle.model.proofs.Refusals.{none-accepted, refused-first, accepted-none}
-use Rattle.model.proofs.Groups.{rising-those}
 use Rattle.model.proofs.Decisions.Decision.{grant-says}
 use Rattle.model.proofs.Decisions.Answers.{explained-refused, explained-as-decided, explained-too-few}
 use Rattle.model.proofs.Decisions.Rows.{denied-rows, granted-rise, granted-says, granted-have, granted-named}
 use Rattle.model.proofs.Decisions.Denied.{deny-rows-count, deny-row-first}
 use Rattle.model.proofs.Decisions.Cause.{cause-says}
-use Rattle.table.specs.View.{holdsTable, elementsOf, policyOf, memory}
+use Rattle.table.specs.View.{holdsTable, policyOf, memory}
 use Rattle.table.proofs.Outcomes.{never}
-use Rattle.table.proofs.Tabled.{rising-tabulate}
+use Rattle.table.proofs.ById.{elements-rise}
 use Rattle.request.specs.declared.Request.{Request}
 use Rattle.request.specs.Asks.{requestOf, Accepted}
 use Rattle.request.proofs.Operations.{some-alternative}
@@ -85,11 +84,6 @@ module _ (p : Policy) (q : Asks) where
   pub record DenyRows : Type 0 where
     pub count : length (rows (contained p) p q) ≡ length (alternativesOf q)
     pub each : (i : ℕ) → i < length (alternativesOf q) → (d : Row) → DenyRowAt i (getD (rows (contained p) p q) i d)
-
--- the elements of a table rise strictly by id
-elements-rise : (mem : List ℕ) → rising elementKey (policyOf mem .elements) ≡ true
-unfolding policyOf elementsOf before
-elements-rise mem = rising-those elementKey _ _ (rising-tabulate elementKey 511 _ (λ i h. rw (lt-ltb (suc i) (suc (suc i)) (omega arith))))
 
 -- 10 is the number of an explanation's last line alone
 last-line : (W : ℕ → ℕ → Bool) (holds : Bool) (room : ℕ) (p : Policy) (q : Asks) → First 10 (explainLines W holds room p q)

@@ -1,32 +1,33 @@
 -- The first state of a run: the table that new or load made, with its index built.
 -- Assumes nothing.
 use mathlib.Core.Path.{_≡_, refl, sym, ap, subst}
-use mathlib.Core.Bool.{true}
-use mathlib.Core.List.{List, [], _∷_}
+use mathlib.Core.Bool.{true, not}
+use mathlib.Core.List.{List}
 use Prim.Native.Nat.{ℕ}
 use borrow.Author.Tests.{eq-eqb}
 use lib.Dec.{eqb}
 use lib.ListN.{length}
 use Rattle.model.specs.Policy.{Policy, emptyPolicy}
 use Rattle.model.specs.Sound.{Sound}
-use Rattle.model.specs.Refusal.{Line, None, past, answer}
+use Rattle.model.specs.Refusal.{past, accepted, answer}
 use Rattle.model.specs.Command.{newLines}
-use Rattle.model.specs.Image.{policyIn, loadLines, readImage}
+use Rattle.model.specs.Image.{policyIn, imageLines, loadLines, readImage}
 use Rattle.model.specs.Index.{indexOf, indexLines}
-use Rattle.model.specs.Calls.{Making, Building, kept, lent, load, build}
+use Rattle.model.specs.Calls.{Building, kept, lent, build}
 use Rattle.model.proofs.Refusals.{none-accepted, accepted-none}
 use Rattle.model.proofs.Indexed.{index-length}
-use Rattle.model.proofs.Image.Images.{accepted-is-sound}
 use Rattle.model.proofs.Commands.Runs.{empty-sound}
 use Rattle.table.specs.Layout.{wordCount}
 use Rattle.table.specs.View.{holdsTable, policyOf, memory, emptyTable}
 use Rattle.table.specs.Answers.{Left, told, left, newTable}
 use Rattle.table.specs.declared.Outcome.the-variants.{Done}
-use Rattle.model.proofs.Definitions.{definitions}
 use Rattle.table.proofs.Test.{of-table}
 use Rattle.table.proofs.Empty.{empty-table, empty-policy}
 use Rattle.index.proofs.Answered.{build-done}
-use Rattle.history.specs.Steps.{New, Loaded, Begun, new, loaded, Built}
+use Rattle.unpack.specs.Words.{tableOf}
+use Rattle.image.specs.Answers.{loadTable}
+use Rattle.image.proofs.Theorems.{load-table, load-policy, load-sound}
+use Rattle.history.specs.Steps.{New, Begun, new, loaded, Built}
 
 -- What stays true along a run: the words hold a table, its policy is sound, and the bytes are its index.
 pub record Kept (words bytes : List ℕ) : Type 0 where
@@ -45,23 +46,18 @@ pub new-words : {words : List ℕ} → New words → words ≡ emptyTable
 unfolding told newTable
 new-words n = accepted-none emptyTable (newLines (eqb (length (n .before)) wordCount)) (sym (ap (λ (l : Left). l .answers) (n .call))) .1
 
--- where no line holds, none behind the first does
-behind : {l : Line} {ls : List Line} → None (l ∷ ls) → None ls
-behind (past h f) = f
-
--- an accepted call of load leaves the policy that the image spells, and it is sound
-pub load-policy : {image words : List ℕ} → Loaded image words → (policyOf words ≡ policyIn image) × Sound (policyIn image)
-unfolding told load readImage
-load-policy {image} {words} n =
-    let a = accepted-none (policyIn image) (loadLines (eqb (length (n .before)) wordCount) image) (sym (ap (λ (m : Making). m .answers) (n .call))) in
-    (a .1, accepted-is-sound image (policyIn image) (none-accepted (policyIn image) (behind (a .0))))
-
 -- what each beginning is
 pub started : {start : Policy} {words : List ℕ} → Begun start words → Started start words
 started (new {words = words} n) =
     let e = new-words n in
     record { table = rw e (of-table empty-table); policy = rw e empty-policy; sound = empty-sound }
-started (loaded n) = let a = load-policy n in record { table = n .table; policy = a .0; sound = a .1 }
+started (loaded {image = image} {words = words} n) =
+    let p = load-policy image (n .before) Done words (n .call) refl in
+    record {
+      table = load-table image (n .before) Done words (n .call) refl;
+      policy = p;
+      sound = subst Sound p (load-sound image (n .before) Done words (n .call) refl);
+    }
 
 -- an accepted call of build leaves the index of the table's policy
 pub built-index : {words bytes : List ℕ} → Built words bytes → bytes ≡ indexOf (policyOf words)
@@ -75,7 +71,7 @@ begun-kept b i =
     let s = started b in
     record { table = s .table; sound = subst Sound (sym (s .policy)) (s .sound); index = built-index i }
 
--- And there are such beginnings: a new table, and build on any table.
+-- And there are such beginnings: a new table, the table of any image that is read as a policy, and build on any table.
 pub can-begin : Begun emptyPolicy emptyTable
 unfolding told newTable answer kept
 can-begin = new {words = emptyTable} (record { before = emptyTable; call = rw (eq-eqb (length emptyTable) wordCount (empty-table .size)) refl })
@@ -86,13 +82,15 @@ can-build words t = record {
   call = build-done words (indexOf (policyOf words)) {r = holdsTable words} refl (rw t refl) (index-length (policyOf words)) refl;
 }
 
--- load of the empty policy's image
-pub can-load : Begun (policyIn (0x10 ∷ 0 ∷ 0 ∷ 0 ∷ 0 ∷ 0 ∷ 0 ∷ [])) emptyTable
-unfolding told load kept answer definitions
-can-load = loaded {image = 0x10 ∷ 0 ∷ 0 ∷ 0 ∷ 0 ∷ 0 ∷ 0 ∷ []} {words = emptyTable} (record {
-  before = emptyTable;
-  call = rw (empty-policy, eq-eqb (length emptyTable) wordCount (empty-table .size)) refl;
-  table = of-table empty-table;
+-- load of any image that is read as a policy, into any memory of the published length
+pub can-load : (image : List ℕ) {p : Policy} → readImage image ≡ accepted p → (before : List ℕ) → length before ≡ wordCount
+    → Begun (policyIn image) (tableOf (policyIn image))
+unfolding readImage loadTable told kept
+can-load image h before e = loaded {image = image} {words = tableOf (policyIn image)} (record {
+  before = before;
+  call =
+      let n = accepted-none (policyIn image) (imageLines image) h .0 in
+      rw (none-accepted (tableOf (policyIn image)) {ls = loadLines (eqb (length before) wordCount) image} (past (ap not (eq-eqb (length before) wordCount e)) n));
 })
 
 -- new on any memory of the published length

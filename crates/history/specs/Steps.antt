@@ -5,18 +5,16 @@ use mathlib.Core.Path.{_≡_}
 use mathlib.Core.Bool.{Bool, true, false, cond}
 use mathlib.Core.List.{List, [], _∷_}
 use Prim.Native.Nat.{ℕ}
-use lib.Dec.{eqb}
-use lib.ListN.{length}
 use Rattle.model.specs.Policy.{Policy, emptyPolicy}
 use Rattle.model.specs.Command.{Command, fits}
 use Rattle.model.specs.Image.{policyIn}
-use Rattle.model.specs.Calls.{load, build}
-use Rattle.table.specs.Layout.{wordCount}
-use Rattle.table.specs.View.{holdsTable, policyOf, memory}
-use Rattle.table.specs.Answers.{told, left, newTable}
+use Rattle.model.specs.Calls.{build}
+use Rattle.table.specs.View.{memory}
+use Rattle.table.specs.Answers.{left, newTable}
 use Rattle.table.specs.declared.Outcome.{Outcome}
 use Rattle.table.specs.declared.Outcome.the-variants.{Done, Refused}
 use Rattle.index.specs.Answers as index
+use Rattle.image.specs.Answers.{loadTable}
 use Rattle.command.specs.Commanded.{Commanded}
 
 -- The first state. A call of `table::new` that was accepted left these words: its own contract.
@@ -24,11 +22,10 @@ pub record New (words : List ℕ) : Type 0 where
   pub before : List ℕ
   pub call : left Done words ≡ newTable before
 
--- A call of load that was accepted, on this image, left these words: model's load, whole, and the words hold a table.
+-- A call of `image::load` that was accepted, on this image, left these words: its own contract.
 pub record Loaded (image words : List ℕ) : Type 0 where
   pub before : List ℕ
-  pub call : record { answers = told Done (policyOf words); table = policyOf words } ≡ load (eqb (length before) wordCount) image (policyOf before)
-  pub table : holdsTable words ≡ true
+  pub call : left Done words ≡ loadTable image before
 
 -- a table that new or load made, and the policy that it starts with
 pub data Begun : Policy → (words : List ℕ) → Type 0 where

@@ -4,7 +4,7 @@
 use mathlib.Core.Path.{_≡_}
 use mathlib.Core.Bool.{true}
 use mathlib.Core.List.{List}
-use Prim.Native.Nat.{ℕ, _+_, _*_, _-_, _/_, _%_, _^_, _≤_, _<_}
+use Prim.Native.Nat.{ℕ, _+_, _*_, _/_, _%_, _^_, _≤_, _<_}
 use lib.ListN.{length, getD}
 use Rattle.model.specs.Policy.{isThere}
 use Rattle.model.specs.Contain.{Within}
@@ -22,16 +22,19 @@ pub record Inside (mem : List ℕ) (x y : ℕ) : Type 0 where
   pub there : There mem y
   pub within : Within (assignmentsOf mem) x y
 
--- r is byte i of the index of a table without assignments: at most one bit is 1, that of an element that is there and itself
-pub record Seed (mem : List ℕ) (i r : ℕ) : Type 0 where
-  pub byte : r < 256
-  pub sound : (y : ℕ) → y < 512 → y / 8 ≡ i % 64 → r / 2 ^ (7 - y % 8) % 2 ≡ 1 → (y ≡ i / 64) × There mem y
-  pub complete : There mem (i / 64) → i / 64 / 8 ≡ i % 64 → r / 2 ^ (7 - i / 64 % 8) % 2 ≡ 1
+-- the byte in which bit (n, n) stands has just that bit if element n is there; every other byte stays, and if n is not there all do
+pub record RowSeeded (mem : List ℕ) (n : ℕ) (idx idx′ : List ℕ) : Type 0 where
+  pub size : length idx′ ≡ length idx
+  pub own : There mem n → getD idx′ (64 * n + n / 8) 0 ≡ 128 / 2 ^ (n % 8)
+  pub rest : (i : ℕ) → (i ≡ 64 * n + n / 8 → ⊥) → getD idx′ i 0 ≡ getD idx i 0
+  pub absent : (There mem n → ⊥) → idx′ ≡ idx
 
--- the first i bytes are those of such an index
-pub record Seeded (mem : List ℕ) (i : ℕ) (idx : List ℕ) : Type 0 where
+-- each element below n that is there is within itself, and no other bit is 1 than that of an element that is there and itself
+pub record Seeded (mem : List ℕ) (n : ℕ) (idx : List ℕ) : Type 0 where
   pub size : length idx ≡ 32768
-  pub done : (j : ℕ) → j < i → Seed mem j (getD idx j 0)
+  pub bytes : (i : ℕ) → getD idx i 0 < 256
+  pub sound : {x y : ℕ} → On idx x y → (y ≡ x) × There mem x
+  pub start : {x : ℕ} → There mem x → x < n → On idx x x
 
 -- each bit that is 1 is right, and each element that is there is within itself
 pub record Good (mem idx : List ℕ) : Type 0 where
@@ -84,10 +87,10 @@ pub record RowTidied (mem : List ℕ) (n : ℕ) (idx idx′ : List ℕ) : Type 0
   pub there : {y : ℕ} → On idx′ n y → There mem n
   pub kept : {x y : ℕ} → There mem x → On idx x y → On idx′ x y
 
--- of the first n rows, those of elements that are not there are cleared; all others stay
+-- of the rows of the children of the first n assignments, those of elements that are not there are cleared; all others stay
 pub record Tidied (mem : List ℕ) (n : ℕ) (idx idx′ : List ℕ) : Type 0 where
   pub size : length idx′ ≡ length idx
   pub bytes : (i : ℕ) → getD idx′ i 0 ≤ getD idx i 0
   pub old : {x y : ℕ} → On idx′ x y → On idx x y
-  pub there : {x y : ℕ} → On idx′ x y → x < n → There mem x
+  pub there : {x y z : ℕ} → AmongFirst mem n x z → On idx′ x y → There mem x
   pub kept : {x y : ℕ} → There mem x → On idx x y → On idx′ x y

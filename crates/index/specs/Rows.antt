@@ -42,6 +42,11 @@ pub record Cleared (idx : List ℕ) (a k : ℕ) (idx′ : List ℕ) : Type 0 whe
   pub below : (i : ℕ) → i < 64 * a → getD idx′ i 0 ≡ getD idx i 0
   pub above : (i : ℕ) → 64 * a + k ≤ i → getD idx′ i 0 ≡ getD idx i 0
 
+-- the first n bytes are 0
+pub record Zeroed (idx : List ℕ) (n : ℕ) (idx′ : List ℕ) : Type 0 where
+  pub size : length idx′ ≡ length idx
+  pub done : (i : ℕ) → i < n → getD idx′ i 0 ≡ 0
+
 -- row x is added to a row that stands by itself, in its first k bytes; every other byte stays
 pub record RowJoined (idx : List ℕ) (x k : ℕ) (row row′ : List ℕ) : Type 0 where
   pub size : length row′ ≡ length row

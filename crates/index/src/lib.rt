@@ -8,8 +8,8 @@ ghost use Rattle.model.specs.Calls.{build as building, isIndex};
 ghost use Rattle.table.specs.Layout.{assignmentCount};
 ghost use Rattle.table.specs.View.{policyOf, memory};
 ghost use Rattle.table.specs.Facts.{Table};
-ghost use Rattle.index.specs.Rows.{Joined, Added, Cleared, RowJoined};
-ghost use Rattle.index.specs.Passes.{Seed, Good, Stepped, Climbed, Passed, Rounded, Full, RowTidied, Tidied};
+ghost use Rattle.index.specs.Rows.{Joined, Added, Cleared, Zeroed, RowJoined};
+ghost use Rattle.index.specs.Passes.{RowSeeded, Good, Stepped, Climbed, Passed, Rounded, Full, RowTidied, Tidied};
 ghost use Rattle.index.specs.Answers.{left, matched};
 
 // Whether an index is the table's.
@@ -91,20 +91,28 @@ fn clear_row(idx: &mut [u8], a: usize)
     }
 }
 
-// Byte i of the index of a table without assignments.
-fn seed(mem: &[u32], i: usize) -> u8
-    requires { ⌜ Table (now mem) ⌝ }
-    requires { ⌜ i < 32768 ⌝ }
-    ensures { λ r. ⌜ Seed (now (mem .entry)) i r ⌝ }
+// Makes every byte zero.
+fn clear(idx: &mut [u8])
+    ensures { λ _. ⌜ Zeroed (now (idx .entry)) (length (now (idx .entry))) (now (idx .exit)) ⌝ }
 {
-    let x = i / 64;
-    if i % 64 != x / 8 {
-        return 0;
+    let mut i = 0;
+    while i < idx.len() {
+        idx[i] = 0;
+        i += 1;
     }
+}
+
+// Makes the byte of x and x the one with just their bit, if element x is there.
+fn seed_row(mem: &[u32], idx: &mut [u8], x: usize)
+    requires { ⌜ Table (now mem) ⌝ }
+    requires { ⌜ length (now idx) ≡ 32768 ⌝ }
+    requires { ⌜ x < 512 ⌝ }
+    ensures { λ _. ⌜ RowSeeded (now (mem .entry)) x (now (idx .entry)) (now (idx .exit)) ⌝ }
+{
     if table::kind_of(mem, x as u32) == 0 {
-        return 0;
+        return;
     }
-    128 >> (x % 8)
+    idx[64 * x + x / 8] = 128 >> (x % 8);
 }
 
 // Each element that is there is within itself.
@@ -113,10 +121,11 @@ fn start(mem: &[u32], idx: &mut [u8])
     requires { ⌜ length (now idx) ≡ 32768 ⌝ }
     ensures { λ _. ⌜ Good (now (mem .entry)) (now (idx .exit)) ⌝ }
 {
-    let mut i = 0;
-    while i < 32768 {
-        idx[i] = seed(mem, i);
-        i += 1;
+    clear(idx);
+    let mut x = 0;
+    while x < 512 {
+        seed_row(mem, idx, x);
+        x += 1;
     }
 }
 
@@ -220,16 +229,17 @@ fn tidy_row(mem: &[u32], idx: &mut [u8], x: u32)
     clear_row(idx, x as usize);
 }
 
-// Makes the rows of elements that are not there zero.
+// Makes the rows of elements that are not there zero: of those, only children of assignments can have bits.
 fn tidy(mem: &[u32], idx: &mut [u8])
     requires { ⌜ Table (now mem) ⌝ }
     requires { ⌜ length (now idx) ≡ 32768 ⌝ }
-    ensures { λ _. ⌜ Tidied (now (mem .entry)) 512 (now (idx .entry)) (now (idx .exit)) ⌝ }
+    ensures { λ _. ⌜ Tidied (now (mem .entry)) (assignmentCount (now (mem .entry))) (now (idx .entry)) (now (idx .exit)) ⌝ }
 {
-    let mut x = 0;
-    while x < 512 {
-        tidy_row(mem, idx, x);
-        x += 1;
+    let count = mem[table::ASSIGNMENT_COUNTER] as usize;
+    let mut i = 0;
+    while i < count {
+        tidy_row(mem, idx, mem[table::ASSIGNMENTS + i] / 512 % 512);
+        i += 1;
     }
 }
 

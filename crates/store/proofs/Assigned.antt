@@ -150,6 +150,13 @@ module _ {mem : List ℕ} (t : Table mem) {g : List (List ℕ)} (w : Wide 1 g) (
 fields-of : (r : List ℕ) → length r ≡ 1 → r ≡ (assignmentIn r .child * 512 + assignmentIn r .container) ∷ []
 fields-of r e = one-word r e ∙ ap (λ (w : ℕ). w ∷ []) (omega arith)
 
+-- a record is read back
+pub assignment-back : (x y : ℕ) → y < 512 → assignmentIn (assignmentRecord x y) ≡ record { child = x; container = y }
+assignment-back x y h =
+    let c : (x * 512 + y) / 512 ≡ x = omega arith in
+    let d : (x * 512 + y) % 512 ≡ y = omega arith in
+    rw (c, d) refl
+
 -- two fields that are the same
 same-two : (a b x y : ℕ) → same (a ∷ b ∷ []) (x ∷ y ∷ []) ≡ (eqb a x && eqb b y)
 unfolding same
@@ -181,17 +188,11 @@ module _ {mem : List ℕ} (t : Table mem) (x y : ℕ) (lx : x < 512) (ly : y < 5
   unfolding withAssignment policyOf
   assignment-put few =
       let g = group 776 1 1 mem in
-      let e : assignmentIn (assignmentRecord x y) ≡ record { child = x; container = y } = record-back in
+      let e : assignmentIn (assignmentRecord x y) ≡ record { child = x; container = y } = assignment-back x y ly in
       assignments-regrouped t (wide-put wide (assignmentRecord x y) (λ r. r) refl) (put-few (λ r. r) (assignmentRecord x y) (assignments-fit t) few)
       ∙ ap (withAssignments (policyOf mem)) (
       map-put assignmentIn (λ r. r) assignmentFields (assignmentRecord x y) g (λ r i. order-kept x y ly r (wide .each r i) ∙ ap (λ a. before (assignmentFields a) (assignmentFields (assignmentIn r))) (sym e))
       ∙ rw (e, ← assignments-group mem) refl)
-    where
-      record-back : assignmentIn (assignmentRecord x y) ≡ record { child = x; container = y }
-      record-back =
-          let c : (x * 512 + y) / 512 ≡ x = omega arith in
-          let d : (x * 512 + y) % 512 ≡ y = omega arith in
-          rw (c, d) refl
 
   -- a record that is the assignment's denotes it
   found : isAssigned (policyOf mem) x y ≡ false → (r : List ℕ) → In r (group 776 1 1 mem) → same (assignmentRecord x y) r ≡ false

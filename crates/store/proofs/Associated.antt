@@ -22,7 +22,7 @@ use Rattle.store.specs.Words.{associationRecord, withAssociation, withou
 use Rattle.store.proofs.Frames.{Else, head-stays, elements-stay, processes-stay, assignments-stay, rising-stays, small-stays, prohibitions-stay, tidy-stays}
 use Rattle.group.proofs.Records.{tabulate-alike}
 use Rattle.store.proofs.Looked.{record-found}
-use Rattle.store.proofs.Regroups.{regroup-leaves}
+use Rattle.store.proofs.Regroups.{regroup-leaves, two-words}
 use Rattle.store.proofs.Mapped.{map-tabulate, map-put, map-less, fields-packed, same-packed}
 
 -- the association that a record of two words is
@@ -96,21 +96,14 @@ module _ {mem : List ℕ} (t : Table mem) {g : List (List ℕ)} (w : Wide 2 g) (
   pub associations-clear : Clear 2776 2 2 1000 mem → Clear 2776 2 2 1000 (regroup 2776 2 2 g mem)
   associations-clear = zero-beyond (associations-fit t) w few
 
--- a record of two words
-two-words : (r : List ℕ) → length r ≡ 2 → r ≡ getD r 0 0 ∷ getD r 1 0 ∷ []
-two-words [] e = absurd (omega arith)
-two-words (a ∷ []) e = absurd (omega arith)
-two-words (a ∷ b ∷ []) e = refl
-two-words (a ∷ b ∷ c ∷ r) e = absurd (omega arith)
-
 -- the fields of a record are its words'
 fields-of : (r : List ℕ) → length r ≡ 2 → r ≡ associationRecord (associationIn r)
 fields-of r e = two-words r e ∙ ap (λ (w : ℕ). w ∷ getD r 1 0 ∷ []) (omega arith)
 
 module _ (a : Association) (h : a .target < 512) where
   -- a record is read back
-  record-back : associationIn (associationRecord a) ≡ a
-  record-back =
+  pub association-back : associationIn (associationRecord a) ≡ a
+  association-back =
       let c : (a .attribute * 512 + a .target) / 512 ≡ a .attribute = omega arith in
       let d : (a .attribute * 512 + a .target) % 512 ≡ a .target = omega arith in
       rw (c, d) refl
@@ -138,8 +131,8 @@ module _ (a : Association) (h : a .target < 512) where
     association-put few =
         associations-regrouped t (wide-put wide (associationRecord a) (λ r. r) refl) (put-few (λ r. r) (associationRecord a) (associations-fit t) few)
         ∙ ap (withAssociations (policyOf mem)) (
-        map-put associationIn (λ r. r) associationFields (associationRecord a) (group 2776 2 2 mem) (λ r i. order-kept r (wide .each r i) ∙ ap (λ b. before (associationFields b) (associationFields (associationIn r))) (sym record-back))
-        ∙ rw (record-back, ← associations-group mem) refl)
+        map-put associationIn (λ r. r) associationFields (associationRecord a) (group 2776 2 2 mem) (λ r i. order-kept r (wide .each r i) ∙ ap (λ b. before (associationFields b) (associationFields (associationIn r))) (sym association-back))
+        ∙ rw (association-back, ← associations-group mem) refl)
 
     -- and the memory is a table
     pub association-put-table : word mem 2 < 1000 → Table (withAssociation a mem)

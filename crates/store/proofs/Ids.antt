@@ -1,43 +1,32 @@
 -- Elements and processes: the policy after one word that stands by id is set.
 -- Assumes nothing.
-use mathlib.Core.Path.{_≡_, refl, ap, _∙_}
-use mathlib.Core.Bool.{Bool, true, false, _&&_}
+use mathlib.Core.Path.{_≡_, refl, ap, _∙_, sym}
+use mathlib.Core.Bool.{Bool, true, false}
 use mathlib.Core.List.{List, [], _∷_}
 use mathlib.Core.Logic.{inr, ⊎-elim}
 use Prim.Native.Nat.{ℕ, suc, _+_, _-_, _≤_, _<_}
 use native.Mathlib.Omega.{arith}
-use native.Mathlib.Decide.{decLt}
-use borrow.Author.Tests.{leb-true}
-use lib.Dec.{eqb, leb}
+use lib.Dec.{eqb}
 use lib.ListN.{length, set, length-set}
 use lib.Seq.{getD-set-same, getD-set-other}
 use Rattle.model.specs.Lists.{those, lessFirst, tabulate, put}
-use Rattle.model.specs.Policy.{Element, Process, elementKey, processKey, isKind, isElementId, kindOf, userOf, withElements, withProcesses}
-use Rattle.model.proofs.Truth.{and-right, fails-when}
+use Rattle.model.specs.Policy.{Element, Process, elementKey, processKey, isKind, isElementId, kindOf, userOf, withElements, withProcesses, isThere}
 use Rattle.table.specs.Layout.{word, kindWord, userWord}
 use Rattle.table.specs.View.{elementsOf, processesOf, policyOf}
 use Rattle.table.specs.Facts.{Table}
-use Rattle.table.proofs.ById.{kind-is, user-is}
+use Rattle.table.proofs.ById.{there-by-word, owned-by-word}
 use Rattle.store.specs.Words.{withKind, withUser}
 use Rattle.store.proofs.Frames.{Else, head-stays, elements-stay, processes-stay, assignments-stay, rising-stays, small-stays, associations-stay, prohibitions-stay, tidy-stays}
 use Rattle.store.proofs.Slots.{slot-put, slot-less}
 
--- a word that reads 0 is not 1 to top
-reads-none : (w r top : ℕ) → (w ≤ top → w ≡ r) → r ≡ 0 → (leb 1 w && leb w top) ≡ false
-reads-none w r top h z = elim (decLt top w) [
-  | yes l ↦ fails-when (leb 1 w && leb w top) (λ e. omega (arith, leb-true w top (and-right (leb 1 w) (leb w top) e)))
-  | no l ↦ ap (λ v. leb 1 v && leb v top) (h (omega arith) ∙ z)
-]
-
 -- an element that is not there has no kind in its word
 not-kind : (mem : List ℕ) (x : ℕ) → 1 ≤ x → x ≤ 511 → kindOf (policyOf mem) x ≡ 0 → isKind (kindWord mem x) ≡ false
-unfolding isKind
-not-kind mem x l h z = reads-none (kindWord mem x) (kindOf (policyOf mem) x) 5 (kind-is mem x l h) z
+unfolding isThere
+not-kind mem x l h z = sym (there-by-word mem x l h) ∙ rw z
 
 -- a process that is not there has no user in its word
 not-user : (mem : List ℕ) (i : ℕ) → 1 ≤ i → i ≤ 255 → userOf (policyOf mem) i ≡ 0 → isElementId (userWord mem i) ≡ false
-unfolding isElementId
-not-user mem i l h z = reads-none (userWord mem i) (userOf (policyOf mem) i) 511 (user-is mem i l h) z
+not-user mem i l h z = sym (owned-by-word mem i l h) ∙ rw z
 
 -- A word below the groups is set: everything else stays (word 4 is free), and the memory is a table.
 module _ {mem : List ℕ} (t : Table mem) (at v : ℕ) (low : 8 ≤ at) (high : at < 776) where

@@ -1,7 +1,7 @@
 -- Records and what they denote: a record put into or taken out of a group, seen through what each record denotes; fields packed into one word
 -- keep their order.
 -- Assumes nothing.
-use mathlib.Core.Path.{_≡_, refl, sym, ap, _∙_}
+use mathlib.Core.Path.{_≡_, refl, sym, ap, ap₂, _∙_}
 use mathlib.Core.Bool.{Bool, true, false, cond, _&&_}
 use mathlib.Core.List.{List, [], _∷_, map}
 use Prim.Native.Nat.{ℕ, zero, suc, _+_, _*_, _≤_, _<_}
@@ -10,7 +10,7 @@ use native.Mathlib.Omega.{arith}
 use native.Mathlib.Decide.{decLt, ℕ-discrete}
 use borrow.Author.Tests.{eq-eqb, ne-eqb, eqb-true, le-ltb}
 use lib.Dec.{eqb}
-use Rattle.model.specs.Lists.{In, first, later, those, lessFirst, tabulate, before, same, put}
+use Rattle.model.specs.Lists.{In, first, later, those, lessFirst, tabulate, before, precedes, rising, same, put}
 use Rattle.model.proofs.Order.{first-lower}
 use Rattle.model.proofs.Truth.{and-left, and-right, fails-when}
 
@@ -20,6 +20,14 @@ module _ {A B : Type 0} (f : A → B) where
   unfolding tabulate
   map-tabulate zero g = refl
   map-tabulate (suc n) g = ap (λ l. f (g 0) ∷ l) (map-tabulate n (λ i. g (suc i)))
+
+  -- a list rises as what its members denote does, where f keeps the order
+  pub map-rising : (keyA : A → List ℕ) (keyB : B → List ℕ) (l : List A)
+      → ((a b : A) → In a l → In b l → before (keyA a) (keyA b) ≡ before (keyB (f a)) (keyB (f b))) → rising keyA l ≡ rising keyB (map f l)
+  unfolding rising precedes
+  map-rising keyA keyB [] h = refl
+  map-rising keyA keyB (a ∷ []) h = refl
+  map-rising keyA keyB (a ∷ b ∷ l) h = ap₂ _&&_ (h a b first (later first)) (map-rising keyA keyB (b ∷ l) (λ x y i j. h x y (later i) (later j)))
 
   -- one put in its place, where f keeps the order
   pub map-put : (keyA : A → List ℕ) (keyB : B → List ℕ) (a : A) (l : List A) → ((b : A) → In b l → before (keyA a) (keyA b) ≡ before (keyB (f a)) (keyB (f b)))

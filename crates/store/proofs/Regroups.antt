@@ -1,6 +1,6 @@
 -- A group put anew: what stays elsewhere in the table.
 -- Assumes nothing.
-use mathlib.Core.Path.{_≡_, refl}
+use mathlib.Core.Path.{_≡_, refl, ap}
 use mathlib.Core.Bool.{true}
 use mathlib.Core.List.{List, [], _∷_}
 use Prim.Native.Nat.{ℕ, zero, suc, _+_, _*_, _≤_, _<_}
@@ -47,6 +47,11 @@ pub one-word : (r : List ℕ) → length r ≡ 1 → r ≡ getD r 0 0 ∷ []
 one-word [] e = absurd (omega arith)
 one-word (a ∷ []) e = refl
 one-word (a ∷ b ∷ r) e = absurd (omega arith)
+
+-- a record of two words
+pub two-words : (r : List ℕ) → length r ≡ 2 → r ≡ getD r 0 0 ∷ getD r 1 0 ∷ []
+two-words [] e = absurd (omega arith)
+two-words (a ∷ r) e = ap (λ (l : List ℕ). a ∷ l) (one-word r (omega arith))
 
 -- a list that rises from each place to the next rises
 pub rising-getD : {A : Type 0} (key : A → List ℕ) (g : List A) (d : A) → ((i : ℕ) → suc i < length g → before (key (getD g i d)) (key (getD g (suc i) d)) ≡ true) → rising key g ≡ true

@@ -1,16 +1,16 @@
--- The kind of an element and the user of a process, as words and as the policy has them.
+-- The kind of an element and the user of a process, as words and as the policy has them; and that elements and processes rise by id.
 -- Assumes nothing.
 use mathlib.Core.Path.{_≡_, refl, sym, ap, _∙_}
-use mathlib.Core.Bool.{Bool, true, false, _&&_}
+use mathlib.Core.Bool.{Bool, true, false, not, _&&_, and-true, and-false}
 use mathlib.Core.List.{List}
 use mathlib.Core.Logic.{_⊎_, ⊎-elim}
-use Prim.Native.Nat.{ℕ, suc, _-_, _≤_, _<_}
+use Prim.Native.Nat.{ℕ, zero, suc, _-_, _≤_, _<_}
 use native.Mathlib.Omega.{arith}
 use native.Mathlib.Decide.{decLt}
-use borrow.Author.Tests.{lt-ltb, le-leb, leb-true}
-use lib.Dec.{leb}
+use borrow.Author.Tests.{lt-ltb, le-leb, lt-leb, leb-true, ne-eqb}
+use lib.Dec.{eqb, leb}
 use Rattle.model.specs.Lists.{In, those, tabulate, before, rising}
-use Rattle.model.specs.Policy.{isKind, isElementId, kindOf, userOf}
+use Rattle.model.specs.Policy.{isKind, isElementId, elementKey, processKey, kindOf, isThere, userOf}
 use Rattle.model.proofs.Truth.{and-right, and-join, clash, fails-when, those-in, those-pass, in-those}
 use Rattle.model.proofs.Order.{before-one}
 use Rattle.model.proofs.Groups.{rising-those}
@@ -103,3 +103,37 @@ module _ (mem : List ℕ) (i : ℕ) where
   pub user-is : 1 ≤ i → i ≤ 255 → userWord mem i ≤ 511 → userWord mem i ≡ userOf (policyOf mem) i
   unfolding userOf policyOf processesOf isElementId
   user-is = value-read owners (λ j. record { id = j; owner = userWord mem j }) (λ j. refl) 255 511 i
+
+-- a number is not 0 exactly if it is 1 or more
+positive : (k : ℕ) → not (eqb k 0) ≡ leb 1 k
+positive zero = refl
+positive (suc k) = rw (ne-eqb (suc k) 0 (λ e. omega arith), le-leb 1 (suc k) (omega arith))
+
+-- a value k read from a word w, one above `top` as 0: it is not 0 exactly if the word is 1 to `top`
+pub value-there : (k w top : ℕ) → (top < w → 0 ≡ k) → (w ≤ top → w ≡ k) → not (eqb k 0) ≡ (leb 1 w && leb w top)
+value-there k w top above within = elim (decLt top w) [
+  | yes h ↦ rw (sym (above h), lt-leb w top h, and-false (leb 1 w))
+  | no h ↦ let l : w ≤ top = omega arith in rw (sym (within l), le-leb w top l, and-true (leb 1 w)) (positive w)
+]
+
+-- Who is there, by the words.
+module _ (mem : List ℕ) where
+  -- an element is there exactly if its word is a kind
+  pub there-by-word : (x : ℕ) → 1 ≤ x → x ≤ 511 → isThere (policyOf mem) x ≡ isKind (kindWord mem x)
+  unfolding isThere isKind
+  there-by-word x l h = value-there (kindOf (policyOf mem) x) (kindWord mem x) 5 (kind-above mem x) (kind-is mem x l h)
+
+  -- a process is there exactly if its word is an id
+  pub owned-by-word : (i : ℕ) → 1 ≤ i → i ≤ 255 → not (eqb (userOf (policyOf mem) i) 0) ≡ isElementId (userWord mem i)
+  unfolding isElementId
+  owned-by-word i l h = value-there (userOf (policyOf mem) i) (userWord mem i) 511 (user-above mem i) (user-is mem i l h)
+
+-- The records of any words rise strictly by id.
+module _ (mem : List ℕ) where
+  pub elements-rise : rising elementKey (policyOf mem .elements) ≡ true
+  unfolding policyOf elementsOf isKind
+  elements-rise = present-rises kinds (λ i. record { id = i; kind = kindWord mem i }) (λ i. refl) 511 5
+
+  pub processes-rise : rising processKey (policyOf mem .processes) ≡ true
+  unfolding policyOf processesOf isElementId
+  processes-rise = present-rises owners (λ j. record { id = j; owner = userWord mem j }) (λ j. refl) 255 511

@@ -5,6 +5,7 @@ pub mod Checks
 pub mod Test
 pub mod Asked
 pub mod Listed
+pub mod Counted
 pub mod Empty
 pub mod Outcomes
 pub mod Loops

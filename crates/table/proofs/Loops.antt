@@ -1,13 +1,15 @@
--- Loops that look for one: a test over a list that is told off one by one, as far as a loop has come.
+-- Loops that look for one, and loops that test each: a test over a list that is told off one by one, as far as a loop has come.
 -- Assumes nothing.
 use mathlib.Core.Path.{_≡_, refl, sym, ap, fun-ext, _∙_}
 use mathlib.Core.Bool.{Bool, true, false, not, _&&_, _||_, or-false, or-assoc}
 use mathlib.Core.List.{List, [], _∷_}
 use Prim.Native.Nat.{ℕ, zero, suc, _+_, _≤_, _<_}
 use native.Mathlib.Omega.{arith}
+use native.Mathlib.Decide.{decLt}
+use borrow.Author.Tests.{not-true, not-false}
 use Rattle.model.specs.Lists.{anyOf, allOf, tabulate}
-use Rattle.model.proofs.Truth.{any-in}
-use Rattle.table.proofs.Tabled.{in-tabulate}
+use Rattle.model.proofs.Truth.{clash, fails-when, any-in, all-in, all-of}
+use Rattle.table.proofs.Tabled.{in-tabulate, tabulate-in}
 
 module _ {A : Type 0} (f : A → Bool) where
   -- nothing is below 0
@@ -63,3 +65,32 @@ module _ {A : Type 0} (f : A → Bool) where
       neither : (x y : Bool) → (not x && not y) ≡ not (x || y)
       neither true y = refl
       neither false y = refl
+
+-- each of the first i of n passes the test
+pub record AllTo {A : Type 0} (f : A → Bool) (g : ℕ → A) (n i : ℕ) : Type 0 where
+  pub inside : i ≤ n
+  pub each : (k : ℕ) → k < i → f (g k) ≡ true
+
+-- a loop that tests each of n
+module _ {A : Type 0} (f : A → Bool) (g : ℕ → A) where
+  -- none was looked at
+  pub all-none : (n : ℕ) → AllTo f g n 0
+  all-none n = record { inside = omega arith; each = λ k h. absurd (omega arith) }
+
+  module _ (i : ℕ) {b : Bool} (is : b ≡ f (g i)) where
+    -- one more passes
+    pub all-more : {n : ℕ} → AllTo f g n i → i < n → not b ≡ false → AllTo f g n (i + 1)
+    all-more s l h = record {
+      inside = omega arith;
+      each = λ k a. elim (decLt k i) [ yes e ↦ s .each k e | no e ↦ let q : k ≡ i = omega arith in rw q (sym is ∙ not-false b h) ];
+    }
+
+    -- one does not
+    pub all-fails : (n m : ℕ) → n ≡ m → i < n → not b ≡ true → false ≡ allOf f (tabulate m g)
+    all-fails n m count l h =
+        sym (fails-when (allOf f (tabulate m g)) (λ e. clash (all-in f e (in-tabulate m g i (omega arith))) (sym is ∙ not-true b h)))
+
+  -- all do
+  pub all-end : (n m : ℕ) → n ≡ m → {i : ℕ} → AllTo f g n i → n ≤ i → true ≡ allOf f (tabulate m g)
+  all-end n m count s l =
+      sym (all-of f (tabulate m g) (λ a t. let w = tabulate-in m g t in rw (← w .is) (s .each (w .at) (omega (arith, w .early)))))

@@ -1,7 +1,10 @@
 //! Prints what the second program answers: `desk` as the desk program does, `house` the cases K1 to K12,
-//! `leaves` as the program `try_leaves` does, `leaves-script` the script that is stored for it; `decisions` and
-//! `decisions-script` are those of the program `try_decide`, `histories` and `histories-script` those of `try_command`, and
-//! `bench-script` makes a script that asks one request many times.
+//! `leaves` as the program `try_leaves` does, `leaves-script` the script that is stored for it; `decisions`
+//! and `decisions-script` are those of the program `try_decide`, `histories` and `histories-script` those of
+//! `try_command`, `images` and `images-script` those of `try_image`, and `bench-script` makes a script that
+//! asks one request many times. `damaged-script` makes a script for `try_image` of 1,000 images and, from a
+//! seed, so many damaged images of them: what `images` and the program answer to it can be compared in a long
+//! run by hand.
 
 use std::io::{self, Read, Write};
 use std::process::ExitCode;
@@ -17,10 +20,14 @@ fn main() -> ExitCode {
         ["decisions-script"] => print(&second::decisions_script()),
         ["histories"] => answer(second::histories),
         ["histories-script"] => print(&second::histories_script()),
+        ["images"] => answer(second::images),
+        ["images-script"] => print(&second::images_script()),
+        ["damaged-script", count, seed] => damaged_script(count, seed),
         ["bench-script", table, answer, way, times] => bench_script(table, answer, way, times),
         _ => {
             eprintln!("usage: second-run desk < input | house | leaves < script | leaves-script | decisions < script");
-            eprintln!("       | decisions-script | histories < script | histories-script");
+            eprintln!("       | decisions-script | histories < script | histories-script | images < script");
+            eprintln!("       | images-script | damaged-script COUNT SEED");
             eprintln!("       | bench-script TABLE granted|denied plain|indexed TIMES");
             return ExitCode::from(2);
         }
@@ -54,9 +61,20 @@ fn answer(program: impl Fn(&[u8]) -> String) -> io::Result<bool> {
     print(program(&script).as_bytes())
 }
 
+fn wrong(what: String) -> io::Error {
+    io::Error::new(io::ErrorKind::InvalidInput, what)
+}
+
+fn number(given: &str) -> io::Result<u32> {
+    given.parse().map_err(|_| wrong(format!("{given} is no number")))
+}
+
+fn damaged_script(count: &str, seed: &str) -> io::Result<bool> {
+    print(&second::damaged_script(number(count)?, number(seed)?.into()))
+}
+
 fn bench_script(table: &str, answer: &str, way: &str, times: &str) -> io::Result<bool> {
-    let wrong = |what: String| io::Error::new(io::ErrorKind::InvalidInput, what);
-    let times = times.parse().map_err(|_| wrong(format!("{times} is no number")))?;
+    let times = number(times)?;
     let script = second::bench_script(table, answer == "granted", way == "indexed", times);
     print(&script.ok_or_else(|| wrong(format!("{table} is none of {:?}", second::bench::TABLES)))?)
 }

@@ -1,32 +1,33 @@
 use Rattle.index.proofs.Seeds.{seeded-none, seeded-more, seeded}
 use Rattle.index.specs.Passes.{Seeded}
-use borrow.Author.Needs.{needs}
 use Prim.Native.Nat.{_-_}
 use native.Mathlib.Omega.{arith}
+use borrow.Author.Needs.{needs}
 use Rattle.index.proofs.start.Statement.{statement}
 use Rattle.index.proofs.start.Tie as tie
 use Rattle.index.proofs.start.Reads as reads
 use Rattle.index.proofs.start.Lts as lts
-use Rattle.index.proofs.seed.Reads as seed-reads
+use Rattle.index.proofs.clear.Reads as clear-reads
+use Rattle.index.proofs.seed_row.Reads as seed-row-reads
 
--- the first i bytes are set
+-- the elements below x are seeded
 abbrev Inv-loop : tie.InvT-loop
-Inv-loop mem idx₀ i₀ idx i = Seeded mem i idx
+Inv-loop mem idx₀ x₀ idx x = Seeded mem x idx
 
 abbrev μ-loop : tie.MeasureT-loop
-μ-loop mem idx₀ i₀ idx i = 32768 - i
+μ-loop mem idx₀ x₀ idx x = 512 - x
+
+clear-requires : tie.Need-clear-requires Inv-loop μ-loop
+clear-requires c κs = search needs
 
 loop-holds : tie.Need-loop-holds Inv-loop μ-loop
 loop-holds c = search seeded-none
 
-seed-requires : tie.Need-seed-requires Inv-loop μ-loop
-seed-requires c κs = (search needs, omega arith)
+seed-row-requires : tie.Need-seed-row-requires Inv-loop μ-loop
+seed-row-requires c κs = (search needs, (omega arith, omega arith))
 
-slice-write-idx : tie.Need-slice-write-idx Inv-loop μ-loop
-slice-write-idx c = omega arith
-
-add-i : tie.Need-add-i Inv-loop μ-loop
-add-i c = omega arith
+add-x : tie.Need-add-x Inv-loop μ-loop
+add-x c = omega arith
 
 loop-less : tie.Need-loop-less Inv-loop μ-loop
 loop-less c = omega arith
@@ -46,10 +47,10 @@ start-spec =
     (tie.spec
     Inv-loop
     μ-loop
+    clear-requires
     loop-holds
-    seed-requires
-    slice-write-idx
-    add-i
+    seed-row-requires
+    add-x
     loop-less
     loop-again
     same-length

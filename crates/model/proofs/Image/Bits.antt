@@ -15,7 +15,7 @@ use lib.ListN.{length, take, drop, length-append, length-take, length-drop, take
 use lib.Seq.{length-take-le, take-at, drop-at}
 use borrow.Author.Tests.{ltb-true, lt-ltb}
 use Rattle.model.specs.Lists.{allOf}
-use Rattle.model.specs.Bits.{digit, odd, bitsN, numOf, bitsOf, bytesOf}
+use Rattle.model.specs.Bits.{digit, odd, bitsN, numOf, numAt, bitsOf, bytesOf}
 use Rattle.model.proofs.Truth.{and-cut}
 
 two-cases : (r : ℕ) → r < 2 → (r ≡ 0) ⊎ (r ≡ 1)
@@ -27,7 +27,8 @@ digit-odd : (v : ℕ) → digit (odd v) ≡ v % 2
 unfolding digit odd
 digit-odd v = ⊎-elim (λ e. rw e) (λ e. rw e) (two-cases (v % 2) (omega arith))
 
-digit-lt : (b : Bool) → digit b < 2
+-- a digit is 0 or 1
+pub digit-lt : (b : Bool) → digit b < 2
 unfolding digit
 digit-lt true = omega arith
 digit-lt false = omega arith
@@ -75,6 +76,12 @@ pub num-lt : (l : List Bool) → numOf l < 2 ^ length l
 unfolding numOf
 num-lt [] = omega arith
 num-lt (b ∷ l) = rw (pow-succ' 2 (length l)) (digits-lt (digit-lt b) (num-lt l))
+
+-- what n bits spell is below 2 ^ n, also where fewer are there
+pub spelled-lt : (l : List Bool) (at n : ℕ) → numAt l at n < 2 ^ n
+unfolding numAt
+spelled-lt l at n =
+    let h : length (take n (drop at l)) ≤ n = rw (length-take n (drop at l)) (omega arith) in lt-of-lt-of-le (num-lt (take n (drop at l))) (pow-mono h)
 
 -- bits are the bits of the number that they spell
 pub bitsN-num : (l : List Bool) → bitsN (length l) (numOf l) ≡ l

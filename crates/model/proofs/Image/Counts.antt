@@ -1,4 +1,4 @@
--- How many records a sound policy has in each group: as many as the counts of the image hold.
+-- What the tests of limits, fields and order say of each group, and how many records a sound policy has in each: as many as the counts of the image hold.
 -- Assumes nothing.
 use mathlib.Core.Path.{_≡_, refl}
 use mathlib.Core.Bool.{Bool, true, false, _&&_}
@@ -65,6 +65,41 @@ each-right p h =
     ∷ allOf prohibitionFits (p .prohibitions) ∷ allOf processFits (p .processes) ∷ []) h in
     record { elements = c .0; assignments = c .1 .0; associations = c .1 .1 .0; prohibitions = c .1 .1 .1 .0; processes = c .1 .1 .1 .1 .0 }
 
+-- each group strictly rises
+pub record Rises (p : Policy) : Type 0 where
+  pub elements : rising elementKey (p .elements) ≡ true
+  pub assignments : rising assignmentFields (p .assignments) ≡ true
+  pub associations : rising associationFields (p .associations) ≡ true
+  pub prohibitions : rising prohibitionFields (p .prohibitions) ≡ true
+  pub processes : rising processKey (p .processes) ≡ true
+
+-- the test of the order, group by group
+pub each-rises : (p : Policy) → groupsRise p ≡ true → Rises p
+unfolding groupsRise
+each-rises p h =
+    let c = truths (rising elementKey (p .elements))
+    (rising assignmentFields (p .assignments) ∷ rising associationFields (p .associations)
+    ∷ rising prohibitionFields (p .prohibitions) ∷ rising processKey (p .processes) ∷ []) h in
+    record { elements = c .0; assignments = c .1 .0; associations = c .1 .1 .0; prohibitions = c .1 .1 .1 .0; processes = c .1 .1 .1 .1 .0 }
+
+-- "Assignments, at most 2,000"; "Associations, at most 1,000"; "Prohibitions, at most 200"
+pub record Limits (p : Policy) : Type 0 where
+  pub assignments : length (p .assignments) ≤ 2000
+  pub associations : length (p .associations) ≤ 1000
+  pub prohibitions : length (p .prohibitions) ≤ 200
+
+-- no group is past its limit
+pub limits : (p : Policy) → withinLimits p ≡ true → Limits p
+unfolding withinLimits
+limits p h =
+    let c = truths (leb (length (p .assignments)) mostAssignments)
+    (leb (length (p .associations)) mostAssociations ∷ leb (length (p .prohibitions)) mostProhibitions ∷ []) h in
+    record {
+      assignments = leb-true (length (p .assignments)) mostAssignments (c .0);
+      associations = leb-true (length (p .associations)) mostAssociations (c .1 .0);
+      prohibitions = leb-true (length (p .prohibitions)) mostProhibitions (c .1 .1 .0);
+    }
+
 -- "ids 1 to 511"; "at most 2,000"; "at most 1,000"; "at most 200"; "ids 1 to 255"
 pub record Counts (p : Policy) : Type 0 where
   pub elements : length (p .elements) ≤ 511
@@ -75,18 +110,14 @@ pub record Counts (p : Policy) : Type 0 where
 
 -- what a sound policy counts at most
 pub counts : (p : Policy) → Sound p → Counts p
-unfolding withinLimits groupsRise
 counts p s =
     let c = each-right p (s .fields) in
-    let k = truths (leb (length (p .assignments)) mostAssignments)
-    (leb (length (p .associations)) mostAssociations ∷ leb (length (p .prohibitions)) mostProhibitions ∷ []) (s .limits) in
-    let r = truths (rising elementKey (p .elements))
-    (rising assignmentFields (p .assignments) ∷ rising associationFields (p .associations)
-    ∷ rising prohibitionFields (p .prohibitions) ∷ rising processKey (p .processes) ∷ []) (s .order) in
+    let k = limits p (s .limits) in
+    let r = each-rises p (s .order) in
     record {
-      elements = few (λ e. e .id) elementFits 511 element-range (p .elements) (r .0) (c .elements);
-      assignments = leb-true (length (p .assignments)) mostAssignments (k .0);
-      associations = leb-true (length (p .associations)) mostAssociations (k .1 .0);
-      prohibitions = leb-true (length (p .prohibitions)) mostProhibitions (k .1 .1 .0);
-      processes = few (λ q. q .id) processFits 255 process-id-range (p .processes) (r .1 .1 .1 .1 .0) (c .processes);
+      elements = few (λ e. e .id) elementFits 511 element-range (p .elements) (r .elements) (c .elements);
+      assignments = k .assignments;
+      associations = k .associations;
+      prohibitions = k .prohibitions;
+      processes = few (λ q. q .id) processFits 255 process-id-range (p .processes) (r .processes) (c .processes);
     }

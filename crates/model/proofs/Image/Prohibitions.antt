@@ -44,7 +44,8 @@ read-ids (x ∷ xs) rest h =
       read-ids xs rest (c .1),
     )
 
-ids-count : (n : ℕ) (l : List Bool) → length (readIds n l) ≡ n
+-- as many ids are read as are asked for
+pub ids-count : (n : ℕ) (l : List Bool) → length (readIds n l) ≡ n
 unfolding readIds
 ids-count zero l = refl
 ids-count (suc n) l = ap suc (ids-count n (drop 9 l))

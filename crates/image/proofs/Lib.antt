@@ -1,0 +1,5 @@
+pub mod Judged
+pub mod Loading
+pub mod Saving
+pub mod Theorems
+pub mod RoundTrips

@@ -1,0 +1,65 @@
+-- What load answers and leaves, return by return.
+-- Assumes nothing.
+use mathlib.Core.Path.{_≡_, refl, sym, ap, _∙_}
+use mathlib.Core.Bool.{true, not}
+use mathlib.Core.List.{List, [], _++_, append-nil}
+use Prim.Native.Nat.{ℕ, _+_, _≤_, _<_}
+use native.Mathlib.Omega.{arith}
+use borrow.Author.Tests.{eq-eqb, ne-eqb}
+use lib.Dec.{eqb}
+use lib.ListN.{length, drop, drop-of-length-le}
+use Rattle.model.specs.Lists.{allOf}
+use Rattle.model.specs.Refusal.{next, past, refused, accepted, answer, refusal}
+use Rattle.model.specs.Image.{policyIn, imageLines, loadLines}
+use Rattle.model.specs.Calls.{kept}
+use Rattle.model.proofs.Refusals.{first-refused, none-accepted, refusal-none, refusal-first}
+use Rattle.group.specs.Group.{laid}
+use Rattle.table.specs.declared.Outcome.{Outcome}
+use Rattle.table.specs.declared.Outcome.the-variants.{Done, Refused}
+use Rattle.table.specs.View.{emptyTable}
+use Rattle.table.specs.Answers.{told, left, newTable, Left}
+use Rattle.unpack.specs.Words.{tableOf}
+use Rattle.image.specs.Answers.{loadTable, Read}
+
+-- `new` on 8,192 words leaves the empty table
+pub made-empty : (r : Outcome) (words : List ℕ) {words′ : List ℕ} → length words ≡ 8192 → left r words′ ≡ newTable words → words′ ≡ emptyTable
+unfolding newTable answer kept
+made-empty r words n e = let k : eqb (length words) 8192 ≡ true = eq-eqb (length words) 8192 n in ap (λ (b : Left). b .words) e ∙ rw k
+
+-- another length
+pub other-length : (s words : List ℕ) → (length words ≡ 8192 → ⊥) → left (Refused 1) words ≡ loadTable s words
+unfolding loadTable told answer kept
+other-length s words h = rw (ne-eqb (length words) 8192 h)
+
+-- what the image's number makes of the answer, for words of the right length
+refused-as : (s words : List ℕ) {n : ℕ} → length words ≡ 8192 → n ≡ refusal (imageLines s) → 0 < n → answer (loadLines (eqb (length words) 8192) s) (tableOf (policyIn s)) ≡ refused n
+refused-as s words e r h =
+    first-refused (tableOf (policyIn s)) (next (ap not (eq-eqb (length words) 8192 e)) (refusal-first (imageLines s) (λ z. omega arith) (sym r)))
+
+accepted-as : (s words : List ℕ) {n : ℕ} → length words ≡ 8192 → n ≡ refusal (imageLines s) → n ≤ 0 → answer (loadLines (eqb (length words) 8192) s) (tableOf (policyIn s)) ≡ accepted (tableOf (policyIn s))
+unfolding allOf
+accepted-as s words e r h =
+    none-accepted (tableOf (policyIn s)) (past (ap not (eq-eqb (length words) 8192 e)) (refusal-none (imageLines s) refl (sym r ∙ zero-is h)))
+  where
+    zero-is : {n : ℕ} → n ≤ 0 → n ≡ 0
+    zero-is h = omega arith
+
+-- the image is refused
+pub image-refused : (s words fresh : List ℕ) {n : ℕ} → length words ≡ 8192 → Read s n fresh → 0 < n → left (Refused n) words ≡ loadTable s words
+unfolding loadTable told kept
+image-refused s words fresh e r h = rw (refused-as s words e (r .number-is) h)
+
+-- words laid over as many are those words
+over-all : (fresh words : List ℕ) → length fresh ≡ length words → laid 0 fresh words ≡ fresh
+unfolding laid
+over-all fresh words e =
+    let d : drop (0 + length fresh) words ≡ [] = drop-of-length-le words {i = 0 + length fresh} (omega arith) in
+    ap (λ (r : List ℕ). fresh ++ r) d ∙ append-nil fresh
+
+-- the image is accepted
+pub image-stored : (s words words′ fresh : List ℕ) {n : ℕ} → length words ≡ 8192 → length fresh ≡ 8192 → Read s n fresh → n ≤ 0 → words′ ≡ laid 0 fresh words
+    → left Done words′ ≡ loadTable s words
+unfolding loadTable told kept
+image-stored s words words′ fresh e f r h w =
+    let k : words′ ≡ tableOf (policyIn s) = w ∙ over-all fresh words (f ∙ sym e) ∙ r .words-are (omega arith) in
+    rw (accepted-as s words e (r .number-is) h, k)

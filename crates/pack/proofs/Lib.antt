@@ -1,0 +1,4 @@
+pub mod Headed
+pub mod Fillings
+pub mod Bounded
+pub mod Wholes

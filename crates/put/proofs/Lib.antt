@@ -1,0 +1,5 @@
+pub mod Joins
+pub mod Runs
+pub mod Words
+pub mod Filling
+pub mod Turns

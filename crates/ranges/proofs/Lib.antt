@@ -1,0 +1,5 @@
+pub mod InOrder
+pub mod Fitting
+pub mod Formed
+pub mod ByFields
+pub mod Rules

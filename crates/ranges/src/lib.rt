@@ -1,0 +1,191 @@
+// Whether a table breaks a rule that can be seen from the fields of its records alone: a field out of range, or a group that does not rise.
+use table::ASSOCIATIONS;
+use table::PROHIBITIONS;
+ghost use mathlib.Core.Path.{_≡_};
+ghost use mathlib.Core.Bool.{_&&_};
+ghost use Prim.Native.Nat.{_+_, _*_, _≤_, _<_};
+ghost use lib.ListN.{length};
+ghost use Rattle.model.specs.Lists.{allOf};
+ghost use Rattle.model.specs.Policy.{isRightSet};
+ghost use Rattle.model.specs.Sound.{listsFit, assignmentFits, associationFits, prohibitionFits};
+ghost use Rattle.model.specs.Command.{badProhibition};
+ghost use Rattle.model.specs.Image.{breaksRule};
+ghost use Rattle.table.specs.Layout.{associationCount, prohibitionCount};
+ghost use Rattle.table.specs.View.{policyOf, associationAt, prohibitionAt};
+ghost use Rattle.table.specs.Facts.{Table};
+ghost use Rattle.ranges.specs.Rising.{beforeNext, recordsRise};
+
+// How many words an association and a prohibition take.
+const ASSOCIATION: usize = 2;
+
+const PROHIBITION: usize = 11;
+
+// Prohibitions are ordered by all their words: the counts and the ids that they list among them.
+const PROHIBITION_KEY: usize = 11;
+
+// Whether the record at a place is before the one a stride behind it, by the first `key` words of each.
+fn is_before_next(mem: &[u32], at: usize, stride: usize, key: usize) -> bool
+    requires { ⌜ length (now mem) ≡ 8192 ⌝ }
+    requires { ⌜ at + stride + key ≤ 8192 ⌝ }
+    ensures { λ r. ⌜ r ≡ beforeNext (now (mem .entry)) at stride key ⌝ }
+{
+    group::place(mem, at + stride, 1, &mem[at..at + key]) == 0
+}
+
+// Whether the n records from `base` on strictly rise, by the first `key` words of each.
+fn are_rising(mem: &[u32], base: usize, stride: usize, key: usize, n: usize) -> bool
+    requires { ⌜ length (now mem) ≡ 8192 ⌝ }
+    requires { ⌜ base + stride * n ≤ 8192 ⌝ }
+    requires { ⌜ key ≤ stride ⌝ }
+    ensures { λ r. ⌜ r ≡ recordsRise (now (mem .entry)) base stride key n ⌝ }
+{
+    let mut at = base;
+    let mut i = 1;
+    while i < n {
+        if !is_before_next(mem, at, stride, key) {
+            return false;
+        }
+        at += stride;
+        i += 1;
+    }
+    true
+}
+
+// Whether each assignment names ids of elements.
+fn are_assignments_in_range(mem: &[u32]) -> bool
+    requires { ⌜ Table (now mem) ⌝ }
+    ensures { λ r. ⌜ r ≡ allOf assignmentFits (policyOf (now (mem .entry)) .assignments) ⌝ }
+{
+    let n = table::assignment_count(mem);
+    let mut i = 0;
+    while i < n {
+        if !table::are_element_ids(table::child_at(mem, i), table::container_at(mem, i)) {
+            return false;
+        }
+        i += 1;
+    }
+    true
+}
+
+// Whether association i names ids of elements, and has a right.
+fn is_association_in_range(mem: &[u32], i: usize) -> bool
+    requires { ⌜ Table (now mem) ⌝ }
+    requires { ⌜ i < associationCount (now mem) ⌝ }
+    ensures { λ r. ⌜ r ≡ associationFits (associationAt (now (mem .entry)) i) ⌝ }
+{
+    if !table::are_element_ids(table::attribute_at(mem, i), table::target_at(mem, i)) {
+        return false;
+    }
+    0 < table::rights_at(mem, i)
+}
+
+// Whether each association does.
+fn are_associations_in_range(mem: &[u32]) -> bool
+    requires { ⌜ Table (now mem) ⌝ }
+    ensures { λ r. ⌜ r ≡ allOf associationFits (policyOf (now (mem .entry)) .associations) ⌝ }
+{
+    let n = table::association_count(mem);
+    let mut i = 0;
+    while i < n {
+        if !is_association_in_range(mem, i) {
+            return false;
+        }
+        i += 1;
+    }
+    true
+}
+
+// Whether prohibition i has a right and its lists are as they must be. A prohibition's ids stand behind its first three words.
+fn is_prohibition_well_formed(mem: &[u32], i: usize) -> bool
+    requires { ⌜ Table (now mem) ⌝ }
+    requires { ⌜ i < prohibitionCount (now mem) ⌝ }
+    ensures { λ r. ⌜ r ≡ (isRightSet (prohibitionAt (now (mem .entry)) i .rights) && listsFit (prohibitionAt (now (mem .entry)) i)) ⌝ }
+{
+    let from = PROHIBITIONS + PROHIBITION * i + 3;
+    let middle = from + table::inclusion_count_at(mem, i);
+    let to = middle + table::exclusion_count_at(mem, i);
+    !prohibition::is_ill_formed(
+        table::prohibition_rights_at(mem, i),
+        &mem[from..middle],
+        &mem[middle..to],
+    )
+}
+
+// Whether the sort, the subject, the form or a listed id of prohibition i is out of range.
+fn is_prohibition_out_of_range(mem: &[u32], i: usize) -> bool
+    requires { ⌜ Table (now mem) ⌝ }
+    requires { ⌜ i < prohibitionCount (now mem) ⌝ }
+    ensures { λ r. ⌜ r ≡ badProhibition (prohibitionAt (now (mem .entry)) i) ⌝ }
+{
+    let from = PROHIBITIONS + PROHIBITION * i + 3;
+    let middle = from + table::inclusion_count_at(mem, i);
+    let to = middle + table::exclusion_count_at(mem, i);
+    prohibition::is_out_of_range(
+        table::sort_at(mem, i),
+        table::subject_at(mem, i),
+        table::form_at(mem, i),
+        &mem[from..middle],
+        &mem[middle..to],
+    )
+}
+
+// Whether the fields of prohibition i are in range and its lists as they must be.
+fn is_prohibition_in_range(mem: &[u32], i: usize) -> bool
+    requires { ⌜ Table (now mem) ⌝ }
+    requires { ⌜ i < prohibitionCount (now mem) ⌝ }
+    ensures { λ r. ⌜ r ≡ prohibitionFits (prohibitionAt (now (mem .entry)) i) ⌝ }
+{
+    if !is_prohibition_well_formed(mem, i) {
+        return false;
+    }
+    !is_prohibition_out_of_range(mem, i)
+}
+
+// Whether those of each prohibition are.
+fn are_prohibitions_in_range(mem: &[u32]) -> bool
+    requires { ⌜ Table (now mem) ⌝ }
+    ensures { λ r. ⌜ r ≡ allOf prohibitionFits (policyOf (now (mem .entry)) .prohibitions) ⌝ }
+{
+    let n = table::prohibition_count(mem);
+    let mut i = 0;
+    while i < n {
+        if !is_prohibition_in_range(mem, i) {
+            return false;
+        }
+        i += 1;
+    }
+    true
+}
+
+// Whether the table breaks such a rule. Elements and processes stand in the words by their ids: they cannot. A table's assignments rise, and its
+// counts are within the limits.
+pub fn breaks_rule(mem: &[u32]) -> bool
+    requires { ⌜ Table (now mem) ⌝ }
+    ensures { λ r. ⌜ r ≡ breaksRule (policyOf (now (mem .entry))) ⌝ }
+{
+    if !are_assignments_in_range(mem) {
+        return true;
+    }
+    if !are_associations_in_range(mem) {
+        return true;
+    }
+    if !are_prohibitions_in_range(mem) {
+        return true;
+    }
+    if !are_rising(
+        mem,
+        ASSOCIATIONS,
+        ASSOCIATION,
+        ASSOCIATION,
+        table::association_count(mem),
+    ) {
+        return true;
+    }
+    !are_rising(
+        mem,
+        PROHIBITIONS,
+        PROHIBITION,
+        PROHIBITION_KEY,
+        table::prohibition_count(mem),
+    )
+}

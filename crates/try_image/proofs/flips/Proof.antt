@@ -1,0 +1,73 @@
+use mathlib.Core.Path.{_≡_}
+use lib.ListN.{length}
+use Prim.Native.Nat.{_≤_, _-_}
+use native.Mathlib.Omega.{arith}
+use Rattle.try_image.proofs.flips.Statement.{statement}
+use Rattle.try_image.proofs.flips.Tie as tie
+use Rattle.try_image.proofs.flips.Reads as reads
+use Rattle.try_image.proofs.flips.Lts as lts
+use Rattle.try_image.proofs.attempt_flipped.Reads as attempt-flipped-reads
+use Rattle.try_image.proofs.say_sum.Reads as say-sum-reads
+
+abbrev Inv-loop : tie.InvT-loop
+Inv-loop mem₀ bytes₀ room₀ n sum₀ i₀ mem bytes room sum i = (i ≤ n) × (length mem ≡ length mem₀) × (length bytes ≡ length bytes₀) × (length room ≡ length room₀)
+
+abbrev μ-loop : tie.MeasureT-loop
+μ-loop mem₀ bytes₀ room₀ n sum₀ i₀ mem bytes room sum i = n - i
+
+-- src/main.rt:234:5
+loop-holds : tie.Need-loop-holds Inv-loop μ-loop
+loop-holds c = omega arith
+
+-- src/main.rt:235:9
+attempt-flipped-requires : tie.Need-attempt-flipped-requires Inv-loop μ-loop
+attempt-flipped-requires c κs = omega arith
+
+-- src/main.rt:236:9
+add-i : tie.Need-add-i Inv-loop μ-loop
+add-i c = omega arith
+
+-- src/main.rt:234:5
+loop-less : tie.Need-loop-less Inv-loop μ-loop
+loop-less c = omega arith
+
+-- src/main.rt:234:5
+loop-again : tie.Need-loop-again Inv-loop μ-loop
+loop-again c = omega arith
+
+-- src/main.rt:238:5
+say-sum-requires : tie.Need-say-sum-requires Inv-loop μ-loop
+say-sum-requires c κs = omega arith
+
+-- src/main.rt:231:1
+same-length : tie.Need-same-length Inv-loop μ-loop
+same-length c = omega arith
+
+-- src/main.rt:231:1
+same-length-2 : tie.Need-same-length-2 Inv-loop μ-loop
+same-length-2 c = omega arith
+
+-- src/main.rt:231:1
+same-length-3 : tie.Need-same-length-3 Inv-loop μ-loop
+same-length-3 c = omega arith
+
+-- src/main.rt:231:1
+returns : tie.Need-returns Inv-loop μ-loop
+returns c = omega arith
+
+pub flips-spec : {M : Type 1} → statement M
+flips-spec =
+    tie.close
+    (tie.spec
+    Inv-loop
+    μ-loop
+    loop-holds
+    attempt-flipped-requires
+    add-i
+    loop-less
+    loop-again
+    say-sum-requires
+    same-length
+    same-length-2
+    same-length-3
+    returns)

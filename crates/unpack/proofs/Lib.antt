@@ -1,0 +1,12 @@
+pub mod Narrow
+pub mod Laying
+pub mod Turns
+pub mod Records
+pub mod Prohibitions
+pub mod Whole
+pub mod StowedLayers
+pub mod StowedIds
+pub mod StowedGroups
+pub mod Stowed
+pub mod StowedRead
+pub mod StowedSound
