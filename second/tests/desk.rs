@@ -1,21 +1,9 @@
 //! The desk program.
 
+use second::desk_inputs::{request, with_length};
 use second::house::small_house;
 use second::make::{self, Random, Size};
 use second::{decide, desk, explain, save, Answer, Policy};
-
-/// Length and image.
-fn with_length(image: &[u8]) -> Vec<u8> {
-    let length = image.len() as u16;
-    [&length.to_be_bytes()[..], image].concat()
-}
-
-/// A request of 40 bits; its last bit is `last`.
-fn request(process: u64, operation: u64, arguments: [u64; 3], last: u64) -> [u8; 5] {
-    let [a, b, c] = arguments;
-    let bits = process << 32 | operation << 28 | a << 19 | b << 10 | c << 1 | last;
-    bits.to_be_bytes()[3..].try_into().unwrap()
-}
 
 fn printed(input: &[u8]) -> String {
     String::from_utf8(desk(input)).unwrap()
@@ -120,7 +108,7 @@ fn many_requests() {
             let (process, operation) = (process % 256, operation % 16);
             let arguments = arguments.map(|argument| argument % 512);
             let last = u64::from(random.chance(2));
-            input.extend(request(process.into(), operation.into(), arguments.map(u64::from), last));
+            input.extend(request(process, operation, arguments, last));
             expected += &line(&policy, process, operation, arguments, last);
         }
         assert_eq!(printed(&input), expected);

@@ -115,6 +115,20 @@ unfolding joined
 joined-length f n h [] = omega arith
 joined-length f n h (a ∷ l) = length-append (f a) (joined f l) ∙ ap₂ _+_ (h a) (joined-length f n h l) ∙ add-comm n (length l * n) ∙ sym (suc-mul (length l) n)
 
+-- the empty set has no right
+pub empty-set : rightsIn 0 ≡ []
+unfolding rightsIn hasRight those tabulate
+empty-set = refl
+
+-- so it has no rows
+pub empty-rows : (p : Policy) (q : Asking) (alternative k : ℕ) → setNumbers p q 0 alternative k ≡ []
+unfolding setNumbers joined
+empty-rows p q alternative k = rw empty-set
+
+-- and none are counted
+pub none-counted : (p : Policy) (q : Asking) {rights : ℕ} → rights ≡ 0 → AtMost (length (setNumbers p q rights 0 0)) 16352 0
+none-counted p q e = rw (e, empty-rows p q 0 0) (record { is = refl; few = omega arith })
+
 -- a set has as many rows as it has rights times the classes of the element, whatever the alternative and the position
 pub set-length : (p : Policy) (q : Asking) (rights alternative k : ℕ)
     → length (setNumbers p q rights alternative k) ≡ length (rightsIn rights) * length (classesOf (contained p (q .element)) p)

@@ -24,7 +24,7 @@ use Rattle.grants.specs.Numbers.{lowestIn, classNumbers, namedNumbers, c
 use Rattle.grants.specs.Put.{Put}
 use Rattle.grants.proofs.Below.{below, joined-below, map-joined, classes-below, zero-other}
 use Rattle.grants.proofs.Placed.{put-none, put-one, put-then, put-start, put-more, put-room, put-end}
-use Rattle.grants.proofs.Counted.{rows-same}
+use Rattle.grants.proofs.Counted.{rows-same, empty-rows}
 
 -- The row with a named association.
 module _ (mem : List ℕ) (name : ℕ) (q : Asking) (alternative k c : ℕ) where
@@ -137,6 +137,10 @@ module _ (p : Policy) (q : Asking) (rights alternative k : ℕ) where
   set-below : setNumbers p q rights alternative k ≡ below (ifRows p q rights alternative k) 32
   unfolding setNumbers rightsIn ifRows
   set-below = joined-below (λ r. rightNumbers p (withRight q r) alternative k) (ifRows p q rights alternative k) (hasRight rights) (λ r. refl) 32
+
+  -- of the empty set none is written
+  pub set-none : rights ≡ 0 → (out : List (List ℕ)) (at : ℕ) → Put out at (setNumbers p q rights alternative k) out at
+  set-none e out at = rw (e, empty-rows p q alternative k) (put-none out at)
 
   -- none is written at first
   pub set-start : (out : List (List ℕ)) (at : ℕ) → Put out at (below (ifRows p q rights alternative k) 0) out at

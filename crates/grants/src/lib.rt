@@ -62,6 +62,9 @@ fn count_set(mem: &[u32], rows: &[u8], q: Asking, rights: u32) -> usize
     requires { ⌜ Rows (now mem) (now rows) false q ⌝ }
     ensures { λ r. ⌜ AtMost (length (setNumbers (policyOf (now (mem .entry))) q rights 0 0)) 16352 r ⌝ }
 {
+    if rights == 0 {
+        return 0;
+    }
     count_rights(rights) * count_classes(mem, rows, q)
 }
 
@@ -206,6 +209,9 @@ fn put_set(
     requires { ⌜ at + length (setNumbers (policyOf (now mem)) q rights alternative k) ≤ length (now out) ⌝ }
     ensures { λ r. ⌜ Put (now (out .entry)) at (setNumbers (policyOf (now (mem .entry))) q rights alternative k) (now (out .exit)) r ⌝ }
 {
+    if rights == 0 {
+        return at;
+    }
     let mut t = at;
     let mut r = 0;
     while r < 32 {

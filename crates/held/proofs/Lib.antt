@@ -1,4 +1,5 @@
 pub mod Classes
 pub mod Associations
+pub mod Passing
 pub mod Turns
 pub mod Sighted

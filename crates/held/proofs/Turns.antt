@@ -19,8 +19,9 @@ use Rattle.rule.specs.Sight.{seen}
 use Rattle.rule.specs.Parts.{classOf}
 use Rattle.rule.specs.declared.Asking.{Asking}
 use Rattle.held.specs.Lacking.{lackOf}
+use Rattle.held.specs.Passing.{PassesBy}
 use Rattle.held.specs.Giving.{givenByFirst, GivenMarks, GivenBits}
-use Rattle.held.proofs.Classes.{class-low, class-high, class-passes, passes-class, lack-no-class, lack-nothing, lack-lowest}
+use Rattle.held.proofs.Classes.{class-low, class-high, class-within, class-passes, passes-class, lack-no-class, lack-nothing, lack-lowest}
 use Rattle.held.proofs.Associations.{given-all, given-some, digit-low, digit-high, marks-none, bits-none}
 
 -- whether the element has a class below c: 0 where it has none, 512 where it has one
@@ -50,19 +51,26 @@ module _ (U E : ℕ → Bool) (T : ℕ → ℕ → Bool) (mem : List ℕ) (r : �
 -- The turns, by any rows.
 module _ {U E : ℕ → Bool} {T : ℕ → ℕ → Bool} {mem : List ℕ} {r : ℕ} where
   module _ {c lacked : ℕ} (f : Far U E T mem r c lacked) (l : c < 512) {b : Bool} (e : b ≡ classOf E (policyOf mem) c) where
-    -- c is no class of the element
-    far-on : not b ≡ true → Far U E T mem r (c + 1) lacked
-    far-on h = record { given = λ d k i. f .given d (below d k i) i; met = on (f .met) }
+    -- c is no class of the element, and it is within none of the ids between c and n
+    far-to : not b ≡ true → (n : ℕ) → ((y : ℕ) → c < y → y < n → E y ≡ false) → Far U E T mem r n lacked
+    far-to h n none = record { given = λ d k i. f .given d (below d k i) i; met = on (f .met) }
       where
-        below : (d : ℕ) → d < c + 1 → In d (classesOf E (policyOf mem)) → d < c
+        below : (d : ℕ) → d < n → In d (classesOf E (policyOf mem)) → d < c
         below d k i = elim (decLt d c) [
           | yes y ↦ y
-          | no n ↦ let q : d ≡ c = omega arith in absurd (clash (class-passes E mem (subst (λ (x : ℕ). In x (classesOf E (policyOf mem))) q i)) (sym e ∙ not-true b h))
+          | no y ↦ elim (decLt c d) [
+            | yes z ↦ absurd (clash (class-within E mem i) (none d z k))
+            | no z ↦ let q : d ≡ c = omega arith in absurd (clash (class-passes E mem (subst (λ (x : ℕ). In x (classesOf E (policyOf mem))) q i)) (sym e ∙ not-true b h))
+          ]
         ]
 
-        on : {lacked : ℕ} → Met E mem c lacked → Met E mem (c + 1) lacked
-        on (none-met n) = none-met (λ d k i. n d (below d k i) i)
+        on : {lacked : ℕ} → Met E mem c lacked → Met E mem n lacked
+        on (none-met m) = none-met (λ d k i. m d (below d k i) i)
         on (one-met i) = one-met i
+
+    -- c is no class of the element
+    far-on : not b ≡ true → Far U E T mem r (c + 1) lacked
+    far-on h = far-to h (c + 1) (λ y a z. absurd (omega arith))
 
     -- it is one
     far-class : not b ≡ false → AtClass U E T mem r c lacked
@@ -168,9 +176,10 @@ bit-start mem idx q k = record { far = far-none (seen idx true (q .by)) (seen id
 
 module _ {mem idx : List ℕ} {q : Asking} {n c lacked i : ℕ} {given : List ℕ} (f : FarBits mem idx q n c lacked i given) where
   module _ (l : c < 512) {b : Bool} (e : b ≡ classOf (seen idx true (q .over)) (policyOf mem) c) where
-    -- c is no class of the element
-    pub bit-on : not b ≡ true → FarBits mem idx q n (c + 1) lacked i given
-    bit-on h = record { far = far-on (f .far) l e h; bits = f .bits; counted = f .counted; few = f .few }
+    -- c is no class of the element, and the ids between c and s are passed by
+    pub bit-on : not b ≡ true → {s : ℕ} → PassesBy idx (q .over) c s → FarBits mem idx q n s lacked i given
+    unfolding seen
+    bit-on h {s} p = record { far = far-to (f .far) l e h s (p .none); bits = f .bits; counted = f .counted; few = f .few }
 
     -- it is one
     pub bit-class : not b ≡ false → AtBits mem idx q n c lacked i given

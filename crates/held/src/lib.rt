@@ -11,6 +11,7 @@ ghost use Rattle.table.specs.Facts.{Table};
 ghost use Rattle.rule.specs.Sight.{seen};
 ghost use Rattle.held.specs.Lacking.{lackOf, lackBy, sight, Rows, permits};
 ghost use Rattle.held.specs.Giving.{GivenMarks, GivenBits};
+ghost use Rattle.held.specs.Passing.{zeroByte, PassesBy};
 use rule::Asking;
 
 // What `lack` answers where the right is held.
@@ -91,6 +92,35 @@ fn give_by_index(mem: &[u32], idx: &[u8], q: Asking, i: usize, given: &mut [u8])
     index::join_row(idx, target, given);
 }
 
+// Whether y is below 512 and the byte of row x in which its bit stands is zero, as it is where the bytes do not reach.
+fn is_zero_byte(idx: &[u8], x: u32, y: u32) -> bool
+    ensures { λ r. ⌜ r ≡ zeroByte (now (idx .entry)) x y ⌝ }
+{
+    if 511 < y {
+        return false;
+    }
+    let place = 64 * (x as usize) + (y / 8) as usize;
+    if idx.len() <= place {
+        return true;
+    }
+    idx[place] == 0
+}
+
+// An id behind c, or 512: of the ids between, none has a bit in row x. Where a byte of the row begins behind c, zero bytes are passed by.
+fn next_id(idx: &[u8], x: u32, c: u32) -> u32
+    requires { ⌜ c < 512 ⌝ }
+    ensures { λ r. ⌜ PassesBy (now (idx .entry)) x c r ⌝ }
+{
+    let mut y = c + 1;
+    if 0 < y % 8 {
+        return y;
+    }
+    while is_zero_byte(idx, x, y) {
+        y += 8;
+    }
+    y
+}
+
 // What lacks for the right to be held, by the bits of an index.
 fn lack_by_index(mem: &[u32], idx: &[u8], q: Asking) -> u32
     requires { ⌜ Table (now mem) ⌝ }
@@ -105,7 +135,7 @@ fn lack_by_index(mem: &[u32], idx: &[u8], q: Asking) -> u32
     let mut c = 1;
     'classes: while c < 512 {
         if !rule::is_class_of(mem, idx, true, q.over, c) {
-            c += 1;
+            c = next_id(idx, q.over, c);
             continue 'classes;
         }
         while !index::bit(&given, 0, c) {

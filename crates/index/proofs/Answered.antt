@@ -1,6 +1,6 @@
 -- What the calls of the index answer: one law for each of their answers.
 -- Assumes nothing.
-use mathlib.Core.Path.{_≡_, refl, sym, _∙_}
+use mathlib.Core.Path.{_≡_, refl, sym, ap, _∙_}
 use mathlib.Core.Bool.{Bool, true, false, not}
 use mathlib.Core.List.{List}
 use Prim.Native.Nat.{ℕ}
@@ -10,17 +10,15 @@ use Rattle.model.specs.Lists.{same}
 use Rattle.model.specs.Refusal.{answer}
 use Rattle.model.specs.Index.{indexOf}
 use Rattle.model.specs.Calls.{kept, build, isIndex}
-use Rattle.model.proofs.Truth.{same-truth}
-use Rattle.model.proofs.Order.{same-equal, equal-same}
 use Rattle.table.specs.View.{holdsTable, policyOf, memory}
 use Rattle.table.specs.Answers.{told}
 use Rattle.table.specs.declared.Outcome.the-variants.{Done, Refused}
 use Rattle.index.specs.declared.Matching.the-variants.{Same, Other, Refused as No}
 use Rattle.index.specs.Answers.{left, matched}
 
--- the comparison of the code is the one of the definitions
-pub compared : {made l m : List ℕ} {r : Bool} → l ≡ made → (r ≡ true → l ≡ m) × (l ≡ m → r ≡ true) → r ≡ same m made
-compared {made} {l} {m} {r} e s = same-truth r (same m made) (λ t. equal-same m made (sym (s .0 t) ∙ e)) (λ t. s .1 (e ∙ sym (same-equal m made t)))
+-- the bytes are compared with those that were made
+pub compared : (m : List ℕ) {made l : List ℕ} {r : Bool} → l ≡ made → r ≡ same m l → r ≡ same m made
+compared m e s = s ∙ ap (same m) e
 
 module _ (mem idx : List ℕ) {r : Bool} (e : r ≡ holdsTable mem) (n : not r ≡ true) where
   -- no table: building is refused with 1

@@ -5,5 +5,6 @@ pub mod Seeds
 pub mod Rounds
 pub mod Tidying
 pub mod Exactly
+pub mod Compared
 pub mod Answered
 pub mod Unique

@@ -140,7 +140,7 @@ fn step(mem: &[u32], idx: &mut [u8], i: usize) -> u32
     add_row(idx, (word / 512 % 512) as usize, (word % 512) as usize)
 }
 
-// Steps over the assignments of x, each container's own before it, at most `deep` containers above one another. What is seen is done already.
+// Steps over the assignments of x, unless x is seen: what is seen is done already. At most `deep` elements above one another.
 fn climb(mem: &[u32], idx: &mut [u8], seen: &mut [u8], x: u32, deep: u32)
     requires { ⌜ Table (now mem) ⌝ }
     requires { ⌜ Good (now mem) (now idx) ⌝ }
@@ -154,14 +154,41 @@ fn climb(mem: &[u32], idx: &mut [u8], seen: &mut [u8], x: u32, deep: u32)
     if seen[x as usize] == 1 {
         return;
     }
+    let first = table::first_of(mem, x);
+    climb_from(mem, idx, seen, x, first, deep - 1);
+}
+
+// Steps over the assignments of x, of which `first` is the first, each container's own before it, at most `deep` containers above one another.
+fn climb_from(mem: &[u32], idx: &mut [u8], seen: &mut [u8], x: u32, first: usize, deep: u32)
+    requires { ⌜ Table (now mem) ⌝ }
+    requires { ⌜ Good (now mem) (now idx) ⌝ }
+    requires { ⌜ length (now seen) ≡ 512 ⌝ }
+    requires { ⌜ x < 512 ⌝ }
+    ensures { λ _. ⌜ Climbed (now (mem .entry)) (now (idx .entry)) (now (idx .exit)) ⌝ }
+{
     seen[x as usize] = 1;
-    let end = table::first_of(mem, x + 1);
-    let mut i = table::first_of(mem, x);
-    while i < end {
-        climb(mem, idx, seen, mem[table::ASSIGNMENTS + i] % 512, deep - 1);
+    let count = mem[table::ASSIGNMENT_COUNTER] as usize;
+    let mut i = first;
+    while i < count && mem[table::ASSIGNMENTS + i] / 512 == x {
+        climb(mem, idx, seen, mem[table::ASSIGNMENTS + i] % 512, deep);
         step(mem, idx, i);
         i += 1;
     }
+}
+
+// Climbs from the child of assignment i, unless it is seen: in the assignments' order it is the child's first.
+fn climb_at(mem: &[u32], idx: &mut [u8], seen: &mut [u8], i: usize)
+    requires { ⌜ Table (now mem) ⌝ }
+    requires { ⌜ Good (now mem) (now idx) ⌝ }
+    requires { ⌜ length (now seen) ≡ 512 ⌝ }
+    requires { ⌜ i < assignmentCount (now mem) ⌝ }
+    ensures { λ _. ⌜ Climbed (now (mem .entry)) (now (idx .entry)) (now (idx .exit)) ⌝ }
+{
+    let child = mem[table::ASSIGNMENTS + i] / 512 % 512;
+    if seen[child as usize] == 1 {
+        return;
+    }
+    climb_from(mem, idx, seen, child, i, 511);
 }
 
 // Steps over all assignments, those of containers first: for a table without cycles, whatever its ids, nothing is left to add after it.
@@ -171,10 +198,11 @@ fn climb_all(mem: &[u32], idx: &mut [u8])
     ensures { λ _. ⌜ Climbed (now (mem .entry)) (now (idx .entry)) (now (idx .exit)) ⌝ }
 {
     let mut seen = [0u8; 512];
-    let mut x = 0;
-    while x < 512 {
-        climb(mem, idx, &mut seen, x, 512);
-        x += 1;
+    let count = mem[table::ASSIGNMENT_COUNTER] as usize;
+    let mut i = 0;
+    while i < count {
+        climb_at(mem, idx, &mut seen, i);
+        i += 1;
     }
 }
 
@@ -268,14 +296,30 @@ pub fn build(mem: &[u32], idx: &mut [u8]) -> table::Outcome
     table::Outcome::Done
 }
 
+// Whether two lists of 32,768 bytes are the same. No early exit: many bytes are compared at a time.
+fn are_same(a: &[u8], b: &[u8]) -> bool
+    requires { ⌜ length (now a) ≡ 32768 ⌝ }
+    requires { ⌜ length (now b) ≡ 32768 ⌝ }
+    ensures { λ r. ⌜ r ≡ same (now (a .entry)) (now (b .entry)) ⌝ }
+{
+    let mut alike = true;
+    let mut i = 0;
+    while i < 32768 {
+        alike = alike & (a[i] == b[i]);
+        i += 1;
+    }
+    alike
+}
+
 // Whether the bytes are those of the index of a table.
 fn is_same(mem: &[u32], idx: &[u8]) -> bool
     requires { ⌜ Table (now mem) ⌝ }
+    requires { ⌜ length (now idx) ≡ 32768 ⌝ }
     ensures { λ r. ⌜ r ≡ same (now (idx .entry)) (indexOf (policyOf (now (mem .entry)))) ⌝ }
 {
     let mut fresh = [0u8; 32768];
     fill(mem, &mut fresh);
-    check::same(&fresh, idx)
+    are_same(idx, &fresh)
 }
 
 // Whether the bytes are the table's index, with the refusals of `build`.

@@ -82,12 +82,12 @@ unfolding lowerName
 name-next mem name i {r} e h = rw (← e, not-false r h) (omega arith)
 
 -- no mark: the name stays
-pub no-mark : (mem : List ℕ) (mark name i : ℕ) → mark ≡ 0 → name ≡ cond (eqb mark 0) name (lowerName mem name i)
-no-mark mem mark name i e = rw (eq-eqb mark 0 e)
+pub no-mark : (mark name lower : ℕ) → mark ≡ 0 → name ≡ cond (eqb mark 0) name lower
+no-mark mark name lower e = rw (eq-eqb mark 0 e)
 
 -- a mark: the lower one's
-pub some-mark : (mem : List ℕ) (mark name i : ℕ) {r : ℕ} → (mark ≡ 0 → ⊥) → r ≡ lowerName mem name i → r ≡ cond (eqb mark 0) name (lowerName mem name i)
-some-mark mem mark name i d e = rw (ne-eqb mark 0 d) e
+pub some-mark : (mark name : ℕ) {lower r : ℕ} → (mark ≡ 0 → ⊥) → r ≡ lower → r ≡ cond (eqb mark 0) name lower
+some-mark mark name d e = rw (ne-eqb mark 0 d) e
 
 -- What is named at the target of association i.
 module _ (mem names : List ℕ) (i s : ℕ) (e : s ≡ associationAt mem i .target) where

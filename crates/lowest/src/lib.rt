@@ -1,12 +1,14 @@
 // The lowest association that authorizes a right over an element, in each class.
 ghost use mathlib.Core.Path.{_≡_};
-ghost use mathlib.Core.Bool.{false, cond};
+ghost use mathlib.Core.Bool.{true, false, cond};
 ghost use Prim.Native.Nat.{_+_, _≤_, _<_};
 ghost use lib.Dec.{eqb};
+ghost use lib.ListN.{length};
 ghost use Rattle.table.specs.Layout.{associationCount};
 ghost use Rattle.table.specs.Facts.{Table};
 ghost use Rattle.held.specs.Lacking.{Rows};
 ghost use Rattle.lowest.specs.Named.{isBefore, isLower, isLowerAtTarget, lowerName, NamesOfFirst, LoweredAbove, LowestOfFirst};
+ghost use Rattle.lowest.specs.Marked.{associationsRise, firstName, FirstNamed, LowestMarked};
 use rule::Asking;
 
 // Whether association i is before association j, by user attribute, target, then rights.
@@ -118,8 +120,8 @@ fn name_next(mem: &[u32], rows: &[u8], q: Asking, i: usize, names: &mut [u32; 51
     name_above(mem, i, names);
 }
 
-// For each class the name of the lowest association that authorizes the right in it.
-pub fn lowest(mem: &[u32], rows: &[u8], q: Asking) -> [u32; 512]
+// For each class the name of the lowest association that authorizes the right in it, whatever the order of the associations.
+fn lowest_of_any(mem: &[u32], rows: &[u8], q: Asking) -> [u32; 512]
     requires { ⌜ Table (now mem) ⌝ }
     requires { ⌜ Rows (now mem) (now rows) false q ⌝ }
     requires { ⌜ q .right < 32 ⌝ }
@@ -133,4 +135,116 @@ pub fn lowest(mem: &[u32], rows: &[u8], q: Asking) -> [u32; 512]
         i += 1;
     }
     names
+}
+
+// Whether the associations strictly rise, as those of every sound policy do.
+fn are_rising(mem: &[u32]) -> bool
+    requires { ⌜ Table (now mem) ⌝ }
+    ensures { λ r. ⌜ r ≡ associationsRise (now (mem .entry)) ⌝ }
+{
+    let n = table::association_count(mem);
+    let mut i = 1;
+    while i < n {
+        if !is_before(mem, i - 1, i) {
+            return false;
+        }
+        i += 1;
+    }
+    true
+}
+
+// The name that a class keeps when association i authorizes the right where the mark is not 0, and is lower than none that is named.
+fn kept_or_first(mark: u8, name: u32, i: usize) -> u32
+    requires { ⌜ i < 1000 ⌝ }
+    ensures { λ r. ⌜ r ≡ cond (eqb mark 0) name (firstName name i) ⌝ }
+{
+    if mark == 0 {
+        return name;
+    }
+    if 0 < name {
+        return name;
+    }
+    i as u32 + 1
+}
+
+// Names association i in each class that is marked and names none.
+fn name_marked(marks: &[u8; 512], i: usize, names: &mut [u32; 512])
+    requires { ⌜ length (now marks) ≡ 512 ⌝ }
+    requires { ⌜ i < 1000 ⌝ }
+    requires { ⌜ NamesOfFirst i (now names) ⌝ }
+    ensures { λ _. ⌜ FirstNamed (now (marks .entry)) i (now (names .entry)) (now (names .exit)) ⌝ }
+{
+    let mut c = 0;
+    while c < 512 {
+        names[c] = kept_or_first(marks[c], names[c], i);
+        c += 1;
+    }
+}
+
+// Takes association i into account, where the associations rise: it is the lowest wherever none is named yet. What is marked is where one is named,
+// and is not climbed from again.
+fn name_first(
+    mem: &[u32],
+    rows: &[u8],
+    q: Asking,
+    i: usize,
+    names: &mut [u32; 512],
+    seen: &mut [u8; 512],
+    queue: &mut [u32; 512],
+    tail: usize,
+) -> usize
+    requires { ⌜ Table (now mem) ⌝ }
+    requires { ⌜ Rows (now mem) (now rows) false q ⌝ }
+    requires { ⌜ q .right < 32 ⌝ }
+    requires { ⌜ associationsRise (now mem) ≡ true ⌝ }
+    requires { ⌜ i < associationCount (now mem) ⌝ }
+    requires { ⌜ LowestMarked (now mem) q i (now names) (now seen) (now queue) tail ⌝ }
+    ensures { λ r. ⌜ LowestMarked (now (mem .entry)) q (i + 1) (now (names .exit)) (now (seen .exit)) (now (queue .exit)) r ⌝ }
+{
+    if !rule::is_offered(mem, rows, false, q, i) {
+        return tail;
+    }
+    let target = table::target_at(mem, i);
+    // what is named at the target authorizes the right in all that the target is within
+    if 0 < seen[target as usize] {
+        return tail;
+    }
+    let t = climb::climb_on(mem, target, seen, queue, tail);
+    name_marked(seen, i, names);
+    t
+}
+
+// For each class the name of the lowest association that authorizes the right in it, where the associations rise: what their targets are within is
+// climbed once.
+fn lowest_of_rising(mem: &[u32], rows: &[u8], q: Asking) -> [u32; 512]
+    requires { ⌜ Table (now mem) ⌝ }
+    requires { ⌜ Rows (now mem) (now rows) false q ⌝ }
+    requires { ⌜ q .right < 32 ⌝ }
+    requires { ⌜ associationsRise (now mem) ≡ true ⌝ }
+    ensures { λ r. ⌜ LowestOfFirst (now (mem .entry)) q (associationCount (now (mem .entry))) r ⌝ }
+{
+    let n = table::association_count(mem);
+    let mut names = [0u32; 512];
+    let mut seen = [0u8; 512];
+    let mut queue = [0u32; 512];
+    let mut tail = 0;
+    let mut i = 0;
+    while i < n {
+        tail = name_first(mem, rows, q, i, &mut names, &mut seen, &mut queue, tail);
+        i += 1;
+    }
+    names
+}
+
+// For each class the name of the lowest association that authorizes the right in it.
+pub fn lowest(mem: &[u32], rows: &[u8], q: Asking) -> [u32; 512]
+    requires { ⌜ Table (now mem) ⌝ }
+    requires { ⌜ Rows (now mem) (now rows) false q ⌝ }
+    requires { ⌜ q .right < 32 ⌝ }
+    ensures { λ r. ⌜ LowestOfFirst (now (mem .entry)) q (associationCount (now (mem .entry))) r ⌝ }
+{
+    if are_rising(mem) {
+        return lowest_of_rising(mem, rows, q);
+    }
+    lowest_of_any(mem, rows, q)
 }

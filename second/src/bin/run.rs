@@ -1,4 +1,6 @@
 //! Prints what the second program answers: `desk` as the desk program does, `house` the cases K1 to K12,
+//! `desk-script` the input that is stored for the program `desk_main`, `desk-runs` many inputs and what is printed for each,
+//! `house-image` and `house-example` the stored examples,
 //! `leaves` as the program `try_leaves` does, `leaves-script` the script that is stored for it; `decisions`
 //! and `decisions-script` are those of the program `try_decide`, `histories` and `histories-script` those of
 //! `try_command`, `images` and `images-script` those of `try_image`, and `bench-script` makes a script that
@@ -13,7 +15,11 @@ fn main() -> ExitCode {
     let arguments: Vec<String> = std::env::args().skip(1).collect();
     let printed = match arguments.iter().map(String::as_str).collect::<Vec<_>>()[..] {
         ["desk"] => desk(),
+        ["desk-script"] => print(&second::desk_script()),
+        ["desk-runs"] => print(&second::desk_runs()),
         ["house"] => house(),
+        ["house-image"] => print(&second::house_image()),
+        ["house-example"] => print(&second::house_example()),
         ["leaves"] => answer(second::leaves),
         ["leaves-script"] => print(&second::leaves_script()),
         ["decisions"] => answer(second::decisions),
@@ -25,7 +31,8 @@ fn main() -> ExitCode {
         ["damaged-script", count, seed] => damaged_script(count, seed),
         ["bench-script", table, answer, way, times] => bench_script(table, answer, way, times),
         _ => {
-            eprintln!("usage: second-run desk < input | house | leaves < script | leaves-script | decisions < script");
+            eprintln!("usage: second-run desk < input | desk-script | desk-runs | house | house-image");
+            eprintln!("       | house-example | leaves < script | leaves-script | decisions < script");
             eprintln!("       | decisions-script | histories < script | histories-script | images < script");
             eprintln!("       | images-script | damaged-script COUNT SEED");
             eprintln!("       | bench-script TABLE granted|denied plain|indexed TIMES");

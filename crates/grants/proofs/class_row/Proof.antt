@@ -8,31 +8,24 @@ use Rattle.table.proofs.attribute_at.Reads as attribute-at-reads
 use Rattle.table.proofs.rights_at.Reads as rights-at-reads
 use Rattle.table.proofs.target_at.Reads as target-at-reads
 
--- src/lib.rt:87:9
 returns : tie.Need-returns
 returns c = search named-none
 
--- src/lib.rt:89:14
 sub-i : tie.Need-sub-i
 sub-i c = search needs
 
--- src/lib.rt:89:13
 cast-i : tie.Need-cast-i
 cast-i c = search needs
 
--- src/lib.rt:90:37
 attribute-at-requires : tie.Need-attribute-at-requires
 attribute-at-requires c κs = search needs
 
--- src/lib.rt:90:66
 target-at-requires : tie.Need-target-at-requires
 target-at-requires c κs = search needs
 
--- src/lib.rt:90:92
 rights-at-requires : tie.Need-rights-at-requires
 rights-at-requires c κs = search needs
 
--- src/lib.rt:81:1
 returns-2 : tie.Need-returns-2
 returns-2 c = search named-some
 

@@ -19,35 +19,27 @@ Inv-loop mem rows q n₀ c₀ n c = (c ≤ 512) × CountedBelow (classOf (seen r
 abbrev μ-loop : tie.MeasureT-loop
 μ-loop mem rows q n₀ c₀ n c = 512 - c
 
--- src/lib.rt:29:5
 loop-holds : tie.Need-loop-holds Inv-loop μ-loop
 loop-holds c = (omega arith, search classes-start)
 
--- src/lib.rt:30:21
 is-class-of-requires : tie.Need-is-class-of-requires Inv-loop μ-loop
 is-class-of-requires c κs = search needs
 
--- src/lib.rt:30:14
 one-if-requires : tie.Need-one-if-requires Inv-loop μ-loop
 one-if-requires c κs = search needs
 
--- src/lib.rt:30:9
 add-n : tie.Need-add-n Inv-loop μ-loop
 add-n c = omega arith
 
--- src/lib.rt:31:9
 add-c : tie.Need-add-c Inv-loop μ-loop
 add-c c = omega arith
 
--- src/lib.rt:29:5
 loop-less : tie.Need-loop-less Inv-loop μ-loop
 loop-less c = omega arith
 
--- src/lib.rt:29:5
 loop-again : tie.Need-loop-again Inv-loop μ-loop
 loop-again c = (omega arith, search classes-more)
 
--- src/lib.rt:22:1
 returns : tie.Need-returns Inv-loop μ-loop
 returns c = search classes-end
 

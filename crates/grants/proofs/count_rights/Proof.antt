@@ -16,35 +16,27 @@ Inv-loop rights n₀ r₀ n r = (r ≤ 32) × CountedBelow (hasRight rights) 0 r
 abbrev μ-loop : tie.MeasureT-loop
 μ-loop rights n₀ r₀ n r = 32 - r
 
--- src/lib.rt:52:5
 loop-holds : tie.Need-loop-holds Inv-loop μ-loop
 loop-holds c = (omega arith, search rights-start)
 
--- src/lib.rt:53:21
 has-right-requires : tie.Need-has-right-requires Inv-loop μ-loop
 has-right-requires c κs = omega arith
 
--- src/lib.rt:53:14
 one-if-requires : tie.Need-one-if-requires Inv-loop μ-loop
 one-if-requires c κs = search needs
 
--- src/lib.rt:53:9
 add-n : tie.Need-add-n Inv-loop μ-loop
 add-n c = omega arith
 
--- src/lib.rt:54:9
 add-r : tie.Need-add-r Inv-loop μ-loop
 add-r c = omega arith
 
--- src/lib.rt:52:5
 loop-less : tie.Need-loop-less Inv-loop μ-loop
 loop-less c = omega arith
 
--- src/lib.rt:52:5
 loop-again : tie.Need-loop-again Inv-loop μ-loop
 loop-again c = (omega arith, search rights-more)
 
--- src/lib.rt:47:1
 returns : tie.Need-returns Inv-loop μ-loop
 returns c = search rights-end
 

@@ -7,51 +7,39 @@ use Rattle.grants.proofs.count_rows.Lts as lts
 use Rattle.decide.proofs.asking.Reads as asking-reads
 use Rattle.grants.proofs.count_set.Reads as count-set-reads
 
--- src/lib.rt:74:38
 asking-requires : tie.Need-asking-requires
 asking-requires c κs = search needs
 
--- src/lib.rt:74:82
 array-read-count-set : tie.Need-array-read-count-set
 array-read-count-set c = search needs
 
--- src/lib.rt:74:9
 count-set-requires : tie.Need-count-set-requires
 count-set-requires c κs = (search needs, search rows-first)
 
--- src/lib.rt:75:39
 asking-requires-2 : tie.Need-asking-requires-2
 asking-requires-2 c κs = search needs
 
--- src/lib.rt:75:84
 array-read-count-set-2 : tie.Need-array-read-count-set-2
 array-read-count-set-2 c = search needs
 
--- src/lib.rt:75:9
 count-set-requires-2 : tie.Need-count-set-requires-2
 count-set-requires-2 c κs = (search needs, search rows-second)
 
--- src/lib.rt:76:38
 asking-requires-3 : tie.Need-asking-requires-3
 asking-requires-3 c κs = search needs
 
--- src/lib.rt:76:82
 array-read-count-set-3 : tie.Need-array-read-count-set-3
 array-read-count-set-3 c = search needs
 
--- src/lib.rt:76:9
 count-set-requires-3 : tie.Need-count-set-requires-3
 count-set-requires-3 c κs = (search needs, search rows-third)
 
--- src/lib.rt:77:5
 add-result : tie.Need-add-result
 add-result c = search needs
 
--- src/lib.rt:77:5
 add-result-2 : tie.Need-add-result-2
 add-result-2 c = search needs
 
--- src/lib.rt:69:1
 returns : tie.Need-returns
 returns c = search grant-counted
 

@@ -7,19 +7,15 @@ use Rattle.grants.proofs.put_argument.Lts as lts
 use Rattle.decide.proofs.asking.Reads as asking-reads
 use Rattle.grants.proofs.put_set.Reads as put-set-reads
 
--- src/lib.rt:185:24
 asking-requires : tie.Need-asking-requires
 asking-requires c κs = search needs
 
--- src/lib.rt:185:5
 put-set-requires : tie.Need-put-set-requires
 put-set-requires c κs = (search needs, (search rows-asked, search asked-room))
 
--- src/lib.rt:168:1
 same-length : tie.Need-same-length
 same-length c = search needs
 
--- src/lib.rt:168:1
 returns : tie.Need-returns
 returns c = search asked-all
 

@@ -7,35 +7,27 @@ use Rattle.grants.proofs.put_class.Lts as lts
 use Rattle.grants.proofs.class_row.Reads as class-row-reads
 use Rattle.rule.proofs.is_class_of.Reads as is-class-of-reads
 
--- src/lib.rt:122:9
 is-class-of-requires : tie.Need-is-class-of-requires
 is-class-of-requires c κs = search needs
 
--- src/lib.rt:123:9
 returns : tie.Need-returns
 returns c = search class-none
 
--- src/lib.rt:125:15
 class-row-requires : tie.Need-class-row-requires
 class-row-requires c κs = search needs
 
--- src/lib.rt:125:5
 mul-t13 : tie.Need-mul-t13
 mul-t13 c = search needs
 
--- src/lib.rt:125:5
 slice-set-from-out : tie.Need-slice-set-from-out
 slice-set-from-out c = search class-room
 
--- src/lib.rt:126:5
 add-result : tie.Need-add-result
 add-result c = search needs
 
--- src/lib.rt:104:1
 same-length : tie.Need-same-length
 same-length c = search needs
 
--- src/lib.rt:104:1
 returns-2 : tie.Need-returns-2
 returns-2 c = search class-one
 

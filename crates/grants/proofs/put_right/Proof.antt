@@ -19,47 +19,36 @@ Inv-loop mem rows q alternative k out₀ at names t₀ c₀ out t c = (c ≤ 512
 abbrev μ-loop : tie.MeasureT-loop
 μ-loop mem rows q alternative k out₀ at names t₀ c₀ out t c = 512 - c
 
--- src/lib.rt:137:17
 lowest-requires : tie.Need-lowest-requires Inv-loop μ-loop
 lowest-requires c κs = search needs
 
--- src/lib.rt:140:5
 loop-holds : tie.Need-loop-holds Inv-loop μ-loop
 loop-holds c = (omega arith, search right-start)
 
--- src/lib.rt:141:40
 cast-put-class : tie.Need-cast-put-class Inv-loop μ-loop
 cast-put-class c = omega arith
 
--- src/lib.rt:141:34
 mul-put-class : tie.Need-mul-put-class Inv-loop μ-loop
 mul-put-class c = omega arith
 
--- src/lib.rt:141:34
 array-read-put-class : tie.Need-array-read-put-class Inv-loop μ-loop
 array-read-put-class c = omega arith
 
--- src/lib.rt:141:9
 put-class-requires : tie.Need-put-class-requires Inv-loop μ-loop
 put-class-requires c κs = (search needs, (search needs, (search name-few, (search name-lowest, search right-room))))
 
--- src/lib.rt:142:9
 add-c : tie.Need-add-c Inv-loop μ-loop
 add-c c = omega arith
 
--- src/lib.rt:140:5
 loop-less : tie.Need-loop-less Inv-loop μ-loop
 loop-less c = omega arith
 
--- src/lib.rt:140:5
 loop-again : tie.Need-loop-again Inv-loop μ-loop
 loop-again c = (omega arith, search right-more)
 
--- src/lib.rt:130:1
 same-length : tie.Need-same-length Inv-loop μ-loop
 same-length c = omega arith
 
--- src/lib.rt:130:1
 returns : tie.Need-returns Inv-loop μ-loop
 returns c = search right-end
 

@@ -6,37 +6,29 @@ use Rattle.grants.proofs.put_rows.Reads as reads
 use Rattle.grants.proofs.put_rows.Lts as lts
 use Rattle.grants.proofs.put_argument.Reads as put-argument-reads
 
--- src/lib.rt:195:59
 array-read-put-argument : tie.Need-array-read-put-argument
 array-read-put-argument c = search needs
 
--- src/lib.rt:195:9
 put-argument-requires : tie.Need-put-argument-requires
 put-argument-requires c κs = (search needs, (search needs, search grant-room))
 
--- src/lib.rt:196:61
 array-read-put-argument-2 : tie.Need-array-read-put-argument-2
 array-read-put-argument-2 c = search needs
 
--- src/lib.rt:196:9
 put-argument-requires-2 : tie.Need-put-argument-requires-2
 put-argument-requires-2 c κs =
     (search needs, (search needs, grant-room-second _ _ _ _ _ (c .before .before .put-argument .ensures) (c .before .before .before .before .before .before .pre .1 .1)))
 
--- src/lib.rt:197:47
 array-read-put-argument-3 : tie.Need-array-read-put-argument-3
 array-read-put-argument-3 c = search needs
 
--- src/lib.rt:197:5
 put-argument-requires-3 : tie.Need-put-argument-requires-3
 put-argument-requires-3 c κs =
     (search needs, (search needs, grant-room-third _ _ _ _ _ (c .before .before .before .before .before .put-argument .ensures) (c .before .before .put-argument2 .ensures) (c .before .before .before .before .before .before .before .before .before .pre .1 .1)))
 
--- src/lib.rt:189:1
 same-length : tie.Need-same-length
 same-length c = search needs
 
--- src/lib.rt:189:1
 returns : tie.Need-returns
 returns c = search grant-all
 

@@ -8,6 +8,7 @@ use Rattle.held.proofs.lack_by_index.Reads as reads
 use Rattle.held.proofs.lack_by_index.Lts as lts
 use Rattle.held.proofs.give_by_index.Reads as give-by-index-reads
 use Rattle.index.proofs.bit.Reads as bit-reads
+use Rattle.held.proofs.next_id.Reads as next-id-reads
 use Rattle.rule.proofs.is_class_of.Reads as is-class-of-reads
 use Rattle.table.proofs.association_count.Reads as association-count-reads
 
@@ -33,8 +34,8 @@ classes-holds c = search bit-start
 is-class-of-requires : tie.Need-is-class-of-requires Inv-loop μ-loop Inv-classes μ-classes
 is-class-of-requires c κs = search needs
 
-add-c : tie.Need-add-c Inv-loop μ-loop Inv-classes μ-classes
-add-c c = omega arith
+next-id-requires : tie.Need-next-id-requires Inv-loop μ-loop Inv-classes μ-classes
+next-id-requires c κs = omega arith
 
 classes-less : tie.Need-classes-less Inv-loop μ-loop Inv-classes μ-classes
 classes-less c = omega arith
@@ -67,8 +68,8 @@ loop-less c = omega arith
 loop-again : tie.Need-loop-again Inv-loop μ-loop Inv-classes μ-classes
 loop-again c = search bit-more
 
-add-c-2 : tie.Need-add-c-2 Inv-loop μ-loop Inv-classes μ-classes
-add-c-2 c = omega arith
+add-c : tie.Need-add-c Inv-loop μ-loop Inv-classes μ-classes
+add-c c = omega arith
 
 classes-less-2 : tie.Need-classes-less-2 Inv-loop μ-loop Inv-classes μ-classes
 classes-less-2 c = omega arith
@@ -93,7 +94,7 @@ lack-by-index-spec =
     association-count-requires
     classes-holds
     is-class-of-requires
-    add-c
+    next-id-requires
     classes-less
     classes-again
     loop-holds
@@ -104,7 +105,7 @@ lack-by-index-spec =
     add-i
     loop-less
     loop-again
-    add-c-2
+    add-c
     classes-less-2
     classes-again-2
     returns

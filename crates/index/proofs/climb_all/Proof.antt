@@ -9,26 +9,32 @@ use Rattle.index.proofs.climb_all.Statement.{statement}
 use Rattle.index.proofs.climb_all.Tie as tie
 use Rattle.index.proofs.climb_all.Reads as reads
 use Rattle.index.proofs.climb_all.Lts as lts
-use Rattle.index.proofs.climb.Reads as climb-reads
+use Rattle.index.proofs.climb_at.Reads as climb-at-reads
 
 -- some assignments are done
 abbrev Inv-loop : tie.InvT-loop
-Inv-loop mem idx₀ seen₀ x₀ idx seen x = (length seen ≡ 512) × Climbed mem idx₀ idx
+Inv-loop mem idx₀ seen₀ count i₀ idx seen i = (length seen ≡ 512) × Climbed mem idx₀ idx
 
 abbrev μ-loop : tie.MeasureT-loop
-μ-loop mem idx₀ seen₀ x₀ idx seen x = 512 - x
+μ-loop mem idx₀ seen₀ count i₀ idx seen i = count - i
+
+shared-slice-read-count : tie.Need-shared-slice-read-count Inv-loop μ-loop
+shared-slice-read-count c = omega arith
+
+cast-count : tie.Need-cast-count Inv-loop μ-loop
+cast-count c = omega arith
 
 loop-holds : tie.Need-loop-holds Inv-loop μ-loop
 loop-holds c = (omega arith, search climbed-none)
 
-slice-aggregate-climb : tie.Need-slice-aggregate-climb Inv-loop μ-loop
-slice-aggregate-climb c = omega arith
+slice-aggregate-climb-at : tie.Need-slice-aggregate-climb-at Inv-loop μ-loop
+slice-aggregate-climb-at c = omega arith
 
-climb-requires : tie.Need-climb-requires Inv-loop μ-loop
-climb-requires c κs = (search needs, (search needs, (omega arith, omega arith)))
+climb-at-requires : tie.Need-climb-at-requires Inv-loop μ-loop
+climb-at-requires c κs = (search needs, (search needs, (omega arith, omega arith)))
 
-add-x : tie.Need-add-x Inv-loop μ-loop
-add-x c = omega arith
+add-i : tie.Need-add-i Inv-loop μ-loop
+add-i c = omega arith
 
 loop-less : tie.Need-loop-less Inv-loop μ-loop
 loop-less c = omega arith
@@ -48,10 +54,12 @@ climb-all-spec =
     (tie.spec
     Inv-loop
     μ-loop
+    shared-slice-read-count
+    cast-count
     loop-holds
-    slice-aggregate-climb
-    climb-requires
-    add-x
+    slice-aggregate-climb-at
+    climb-at-requires
+    add-i
     loop-less
     loop-again
     same-length

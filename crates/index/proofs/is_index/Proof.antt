@@ -18,7 +18,7 @@ returns-2 : tie.Need-returns-2
 returns-2 c = search match-bad-index
 
 is-same-requires : tie.Need-is-same-requires
-is-same-requires c κs = search tested
+is-same-requires c κs = (search tested, search needs)
 
 returns-3 : tie.Need-returns-3
 returns-3 c = search match-same

@@ -4,7 +4,7 @@ use Rattle.index.proofs.is_same.Statement.{statement}
 use Rattle.index.proofs.is_same.Tie as tie
 use Rattle.index.proofs.is_same.Reads as reads
 use Rattle.index.proofs.is_same.Lts as lts
-use Rattle.check.proofs.same.Reads as same-reads
+use Rattle.index.proofs.are_same.Reads as are-same-reads
 use Rattle.index.proofs.fill.Reads as fill-reads
 
 slice-aggregate-fill : tie.Need-slice-aggregate-fill
@@ -13,11 +13,11 @@ slice-aggregate-fill c = search needs
 fill-requires : tie.Need-fill-requires
 fill-requires c κs = search needs
 
-slice-aggregate-same : tie.Need-slice-aggregate-same
-slice-aggregate-same c = search needs
+slice-aggregate-are-same : tie.Need-slice-aggregate-are-same
+slice-aggregate-are-same c = search needs
 
-same-requires : tie.Need-same-requires
-same-requires c κs = search needs
+are-same-requires : tie.Need-are-same-requires
+are-same-requires c κs = search needs
 
 returns : tie.Need-returns
 returns c = search compared
@@ -25,4 +25,9 @@ returns c = search compared
 pub is-same-spec : {M : Type 1} → statement M
 is-same-spec =
     tie.close
-    (tie.spec slice-aggregate-fill fill-requires slice-aggregate-same same-requires returns)
+    (tie.spec
+    slice-aggregate-fill
+    fill-requires
+    slice-aggregate-are-same
+    are-same-requires
+    returns)

@@ -1,52 +1,34 @@
-use Prim.Native.Nat.{_-_, _≤_}
+use Rattle.lowest.proofs.InOrder.{rise-so}
 use borrow.Author.Needs.{needs}
-use Rattle.lowest.specs.Named.{LowestOfFirst}
-use Rattle.lowest.proofs.Taken.{taken-start, taken-all}
-use native.Mathlib.Omega.{arith}
 use Rattle.lowest.proofs.lowest.Statement.{statement}
 use Rattle.lowest.proofs.lowest.Tie as tie
 use Rattle.lowest.proofs.lowest.Reads as reads
 use Rattle.lowest.proofs.lowest.Lts as lts
-use Rattle.lowest.proofs.name_next.Reads as name-next-reads
-use Rattle.table.proofs.association_count.Reads as association-count-reads
+use Rattle.lowest.proofs.are_rising.Reads as are-rising-reads
+use Rattle.lowest.proofs.lowest_of_any.Reads as lowest-of-any-reads
+use Rattle.lowest.proofs.lowest_of_rising.Reads as lowest-of-rising-reads
 
-abbrev Inv-loop : tie.InvT-loop
-Inv-loop mem rows q n names₀ i₀ names i = (i ≤ n) × LowestOfFirst mem q i names
+are-rising-requires : tie.Need-are-rising-requires
+are-rising-requires c κs = search needs
 
-abbrev μ-loop : tie.MeasureT-loop
-μ-loop mem rows q n names₀ i₀ names i = n - i
+lowest-of-rising-requires : tie.Need-lowest-of-rising-requires
+lowest-of-rising-requires c κs = (search needs, (search needs, (search needs, search rise-so)))
 
-association-count-requires : tie.Need-association-count-requires Inv-loop μ-loop
-association-count-requires c κs = search needs
+returns : tie.Need-returns
+returns c = search needs
 
-loop-holds : tie.Need-loop-holds Inv-loop μ-loop
-loop-holds c = (omega arith, taken-start _ _)
+lowest-of-any-requires : tie.Need-lowest-of-any-requires
+lowest-of-any-requires c κs = search needs
 
-name-next-requires : tie.Need-name-next-requires Inv-loop μ-loop
-name-next-requires c κs = (search needs, (search needs, (search needs, (omega arith, search needs))))
-
-add-i : tie.Need-add-i Inv-loop μ-loop
-add-i c = omega arith
-
-loop-less : tie.Need-loop-less Inv-loop μ-loop
-loop-less c = omega arith
-
-loop-again : tie.Need-loop-again Inv-loop μ-loop
-loop-again c = (omega arith, search needs)
-
-returns : tie.Need-returns Inv-loop μ-loop
-returns c = search taken-all
+returns-2 : tie.Need-returns-2
+returns-2 c = search needs
 
 pub lowest-spec : {M : Type 1} → statement M
 lowest-spec =
     tie.close
     (tie.spec
-    Inv-loop
-    μ-loop
-    association-count-requires
-    loop-holds
-    name-next-requires
-    add-i
-    loop-less
-    loop-again
-    returns)
+    are-rising-requires
+    lowest-of-rising-requires
+    returns
+    lowest-of-any-requires
+    returns-2)

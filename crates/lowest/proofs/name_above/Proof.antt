@@ -1,6 +1,7 @@
 use Prim.Native.Nat.{_-_, _≤_}
 use borrow.Author.Needs.{needs}
-use Rattle.lowest.proofs.Above.{LoweredTo, lowered-none, next-few, lowered-more, lowered-all}
+use Rattle.lowest.proofs.Setting.{SetTo, set-none, next-few}
+use Rattle.lowest.proofs.Above.{loweredAt, lowered-more, lowered-all}
 use native.Mathlib.Omega.{arith}
 use Rattle.lowest.proofs.name_above.Statement.{statement}
 use Rattle.lowest.proofs.name_above.Tie as tie
@@ -11,7 +12,7 @@ use Rattle.lowest.proofs.kept_or_lower.Reads as kept-or-lower-reads
 use Rattle.table.proofs.target_at.Reads as target-at-reads
 
 abbrev Inv-loop : tie.InvT-loop
-Inv-loop mem i names₀ marks c₀ names c = (c ≤ 512) × LoweredTo mem i c names₀ names
+Inv-loop mem i names₀ marks c₀ names c = (c ≤ 512) × SetTo (loweredAt mem i names₀) c names₀ names
 
 abbrev μ-loop : tie.MeasureT-loop
 μ-loop mem i names₀ marks c₀ names c = 512 - c
@@ -23,7 +24,7 @@ marks-requires : tie.Need-marks-requires Inv-loop μ-loop
 marks-requires c κs = (search needs, omega arith)
 
 loop-holds : tie.Need-loop-holds Inv-loop μ-loop
-loop-holds c = (omega arith, search lowered-none)
+loop-holds c = (omega arith, search set-none)
 
 array-read-kept-or-lower : tie.Need-array-read-kept-or-lower Inv-loop μ-loop
 array-read-kept-or-lower c = omega arith

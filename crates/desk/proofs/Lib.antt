@@ -1,0 +1,9 @@
+pub mod Reading
+pub mod Front
+pub mod Answering
+pub mod Opening
+pub mod Lengths
+pub mod Requests
+pub mod Outputs
+pub mod Apart
+pub mod Theorems

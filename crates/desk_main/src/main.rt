@@ -1,0 +1,141 @@
+// The desk program: reads an image and requests from standard input and prints a line for each, as the crate `desk` says. Requests are read in
+// pieces of many whole ones, whatever their number; only the last piece can end with one that is cut short.
+use desk::Opened;
+use desk::Printed;
+use libc::STDIN_FILENO;
+use libc::STDOUT_FILENO;
+ghost use mathlib.Core.Path.{_≡_};
+ghost use Prim.Native.Nat.{_≤_, _<_};
+ghost use lib.ListN.{length};
+
+// Bytes of a piece: 819 requests.
+const PIECE: usize = 4095;
+
+// The lesser of two: what was printed is no more than there was room for.
+fn lesser(a: usize, b: usize) -> usize
+    ensures { λ r. ⌜ (r ≤ a) × (r ≤ b) ⌝ }
+{
+    if a < b { a } else { b }
+}
+
+// A byte as a number.
+fn wide(b: u8) -> usize
+    ensures { λ r. ⌜ r < 256 ⌝ }
+{
+    b as usize
+}
+
+// How many bytes the image has, as the two bytes before it say.
+fn image_length(input: &[u8]) -> usize
+    requires { ⌜ 2 ≤ length (now input) ⌝ }
+    ensures { λ r. ⌜ r < 65536 ⌝ }
+{
+    256 * wide(input[0]) + wide(input[1])
+}
+
+// Reads the length and the image, no byte beyond. Returns how many bytes there were.
+fn read_image(input: &mut [u8]) -> usize
+    requires { ⌜ length (now input) ≡ 65537 ⌝ }
+    ensures { λ r. ⌜ r ≤ 65537 ⌝ }
+{
+    let n = io::read_full(STDIN_FILENO, &mut input[0..2]);
+    if n < 2 {
+        return lesser(n, 2);
+    }
+    let end = 2 + image_length(input);
+    let m = io::read_full(STDIN_FILENO, &mut input[2..end]);
+    2 + lesser(m, 65535)
+}
+
+// Reads the image and prints the first line. Returns whether requests follow.
+fn begin(mem: &mut [u32]) -> bool {
+    let mut input = [0u8; 65537];
+    let mut out = [0u8; 64];
+    let n = read_image(&mut input);
+    let opened = desk::begin(mem, &input[0..n], &mut out);
+    match opened {
+        Opened::Open(k, _) => io::write_all(STDOUT_FILENO, &out[0..lesser(k, 64)]),
+        Opened::Closed(k) => {
+            io::write_all(STDOUT_FILENO, &out[0..lesser(k, 64)]);
+            false
+        }
+        Opened::Refused(_) => false,
+    }
+}
+
+// How many bytes were printed.
+fn count(printed: Printed) -> usize {
+    match printed {
+        Printed::Length(n) => n,
+        Printed::Refused(_) => 0,
+    }
+}
+
+// Answers a request behind what is printed already. Returns how many bytes are printed then.
+fn answer(mem: &[u32], request: &[u8], out: &mut [u8], used: usize) -> usize
+    requires { ⌜ length (now out) ≡ 4096 ⌝ }
+    requires { ⌜ used ≤ 4032 ⌝ }
+    ensures { λ r. ⌜ r ≤ 4096 ⌝ }
+{
+    let printed = desk::answer(mem, request, &mut out[used..4096]);
+    used + lesser(count(printed), 4096 - used)
+}
+
+// Writes what is printed, where another line may not fit behind it. Returns how many bytes are printed and not written.
+fn write_full(out: &[u8], used: usize) -> usize
+    requires { ⌜ length (now out) ≡ 4096 ⌝ }
+    requires { ⌜ used ≤ 4096 ⌝ }
+    ensures { λ r. ⌜ r ≤ 4032 ⌝ }
+{
+    if used <= 4032 {
+        return used;
+    }
+    io::write_all(STDOUT_FILENO, &out[0..used]);
+    0
+}
+
+// Bytes of the next request, of n that are there: five, or fewer where there are no more.
+fn next_request(n: usize) -> usize
+    requires { ⌜ 1 ≤ n ⌝ }
+    ensures { λ r. ⌜ (1 ≤ r) × (r ≤ n) ⌝ }
+{
+    if n < desk::REQUEST { n } else { desk::REQUEST }
+}
+
+// Answers the requests of a piece, and prints their lines.
+fn answer_piece(mem: &[u32], piece: &[u8]) {
+    let mut out = [0u8; 4096];
+    let mut used = 0;
+    let mut at = 0;
+    let n = piece.len();
+    while at < n {
+        let behind = at + next_request(n - at);
+        used = answer(mem, &piece[at..behind], &mut out, used);
+        used = write_full(&out, used);
+        at = behind;
+    }
+    io::write_all(STDOUT_FILENO, &out[0..used]);
+}
+
+// Reads the next piece and answers it. Returns how many bytes it had.
+fn answer_next(mem: &[u32]) -> usize {
+    let mut input = [0u8; PIECE];
+    let n = io::read_full(STDIN_FILENO, &mut input);
+    answer_piece(mem, &input[0..n]);
+    n
+}
+
+// A proved loop has to end, and nothing says that the input does: the turns are counted down from a number that no run uses up.
+fn answer_all(mem: &[u32]) {
+    let mut turns = u64::MAX;
+    while 0 < turns && answer_next(mem) == PIECE {
+        turns -= 1;
+    }
+}
+
+fn main() {
+    let mut mem = [0u32; 8192];
+    if begin(&mut mem) {
+        answer_all(&mem);
+    }
+}

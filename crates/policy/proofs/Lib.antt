@@ -1,0 +1,3 @@
+pub mod Refusing
+pub mod InTheHouse
+pub mod Theorems

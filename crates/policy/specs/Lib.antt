@@ -1,0 +1,3 @@
+pub mod Allows
+pub mod Claims
+pub mod Cases

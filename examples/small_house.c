@@ -1,0 +1,42 @@
+/* Loads the small house, asks K1 to K3 and prints why. README.md says how to build it. */
+#include <quandrilof.h>
+#include <stdio.h>
+
+static uint32_t table[QD_TABLE_WORDS];
+static uint8_t image[QD_IMAGE_MOST];
+static struct qd_row rows[QD_ROWS_MOST];
+
+static void ask(const char *name, uint32_t process, uint32_t object)
+{
+    uint64_t told = qd_explain(table, QD_TABLE_WORDS, process, QD_READ, object, 0, 0, rows, QD_ROWS_MOST);
+    uint32_t answer = told >> 32, count = (uint32_t)told;
+    if (answer > 16) {
+        printf("%s: process %u reads %u: refused with %u\n", name, process, object, answer - 16);
+        return;
+    }
+    printf("%s: process %u reads %u: %s\n", name, process, object, answer ? "granted" : "denied");
+    for (uint32_t i = 0; i < count; i++) {
+        const struct qd_row *row = &rows[i];
+        if (answer)
+            printf("  right %u in class %u, by the association of %u with %u\n", row->right, row->number, row->attribute, row->target);
+        else if (row->cause == 1)
+            printf("  right %u of argument %u is not held: class %u lacks it\n", row->right, row->argument, row->number);
+        else
+            printf("  right %u of argument %u is restricted, through %u\n", row->right, row->argument, row->number);
+    }
+}
+
+int main(int count, char **words)
+{
+    FILE *file = count == 2 ? fopen(words[1], "rb") : NULL;
+    size_t length = file ? fread(image, 1, sizeof image, file) : 0;
+    uint32_t refusal = qd_load(table, QD_TABLE_WORDS, image, length);
+    if (refusal) {
+        printf("refused with %u\n", refusal);
+        return 1;
+    }
+    ask("K1", 1, 9);
+    ask("K2", 1, 10);
+    ask("K3", 2, 10);
+    return 0;
+}

@@ -1,0 +1,65 @@
+//! The numbers that calls take: kinds, operations, rights, subject sorts, forms. Calls take any `u32` in their place.
+
+/// Kinds of elements.
+pub mod kind {
+    pub const USER: u32 = 1;
+    pub const USER_ATTRIBUTE: u32 = 2;
+    pub const OBJECT: u32 = 3;
+    pub const OBJECT_ATTRIBUTE: u32 = 4;
+    /// A policy class.
+    pub const CLASS: u32 = 5;
+}
+
+/// Operations, with their arguments.
+pub mod operation {
+    /// Object.
+    pub const READ: u32 = 1;
+    /// Object.
+    pub const WRITE: u32 = 2;
+    /// Object.
+    pub const FIND: u32 = 3;
+    /// Object.
+    pub const PRINT: u32 = 4;
+    /// Object, object attribute, object attribute.
+    pub const MOVE: u32 = 5;
+    /// Object, object attribute.
+    pub const COPY: u32 = 6;
+    /// Two elements that are no class.
+    pub const ASSIGN: u32 = 7;
+    /// Two elements that are no class.
+    pub const DEASSIGN: u32 = 8;
+    /// User attribute, attribute.
+    pub const ASSOCIATE: u32 = 9;
+}
+
+/// Rights, 0 to 31. In a right set, right r is the bit `1 << r`. Those without a name are spare.
+pub mod right {
+    pub const READ: u32 = 0;
+    pub const WRITE: u32 = 1;
+    pub const FIND: u32 = 2;
+    pub const PRINT: u32 = 3;
+    pub const MOVE: u32 = 4;
+    pub const TAKE_OUT: u32 = 5;
+    pub const PUT_IN: u32 = 6;
+    pub const ASSIGN_FROM: u32 = 7;
+    pub const ASSIGN_TO: u32 = 8;
+    pub const DEASSIGN_FROM: u32 = 9;
+    pub const DEASSIGN_TO: u32 = 10;
+    pub const ASSOC_FROM: u32 = 11;
+    pub const ASSOC_TO: u32 = 12;
+}
+
+/// Sorts of a prohibition's subject.
+pub mod sort {
+    pub const USER: u32 = 1;
+    pub const PROCESS: u32 = 2;
+    pub const USER_ATTRIBUTE: u32 = 3;
+}
+
+/// Forms of a prohibition.
+pub mod form {
+    /// The range is what is within some inclusion or outside some exclusion.
+    pub const DISJUNCTIVE: u32 = 0;
+    /// The range is what is within every inclusion and outside every exclusion.
+    pub const CONJUNCTIVE: u32 = 1;
+}
