@@ -3,14 +3,14 @@
 use mathlib.Core.Path.{_≡_, ap}
 use mathlib.Core.List.{List}
 use mathlib.Core.Logic.{_⊎_, inl, inr}
-use Prim.Native.Nat.{ℕ, _+_, _*_, _%_, _≤_, _<_}
+use Prim.Native.Nat.{ℕ, _+_, _*_, _/_, _%_, _≤_, _<_}
 use native.Mathlib.Omega.{arith}
 use native.Mathlib.Decide.{decLt}
 use Rattle.model.specs.Contain.{Assigned}
 use Rattle.table.specs.Layout.{assignmentCount, assignmentWord}
 use Rattle.table.specs.View.{policyOf}
-use Rattle.table.specs.Facts.{FirstOf, AmongFirst}
-use Rattle.table.proofs.Assignments.{assigned-word, word-assigned}
+use Rattle.table.specs.Facts.{Table, FirstOf, AmongFirst}
+use Rattle.table.proofs.Assignments.{rising-le, assigned-word, word-assigned}
 use Rattle.climb.specs.Queued.{Container}
 
 module _ {mem : List ℕ} {x : ℕ} where
@@ -37,12 +37,16 @@ module _ {mem : List ℕ} {x : ℕ} where
   pub among-container : {i : ℕ} → i ≤ assignmentCount mem → (y : ℕ) → AmongFirst mem i x y → Container mem x y
   among-container l y e = record { at = e .at; early = omega arith; is = e .is; small = e .small }
 
-  -- a container of x stands before the first assignment of x + 1
-  pub container-among : {r i : ℕ} → FirstOf mem (x + 1) r → r ≤ i → (y : ℕ) → Container mem x y → AmongFirst mem i x y
-  container-among {i = i} f l y e = elim (decLt (e .at) i) [
+  -- where the child of assignment i is above x, each container of x stands before it
+  pub container-among : {i : ℕ} → Table mem → i < assignmentCount mem → x < assignmentWord mem i / 512 → (y : ℕ) → Container mem x y → AmongFirst mem i x y
+  container-among {i = i} t l h y e = elim (decLt (e .at) i) [
     | yes b ↦ record { at = e .at; early = b; is = e .is; small = e .small }
-    | no b ↦ absurd (omega (arith, f .from (e .at) (omega arith) (e .early)))
+    | no b ↦ absurd (omega (arith, rising-le t i (e .at) (omega arith) (e .early)))
   ]
+
+  -- each container of x stands before the end
+  pub container-inside : {i : ℕ} → assignmentCount mem ≤ i → (y : ℕ) → Container mem x y → AmongFirst mem i x y
+  container-inside l y e = record { at = e .at; early = omega arith; is = e .is; small = e .small }
 
 -- a container by the words is one by the policy
 pub container-assigned : {mem : List ℕ} {x y : ℕ} → Container mem x y → Assigned (policyOf mem .assignments) x y

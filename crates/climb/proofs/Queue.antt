@@ -9,7 +9,7 @@ use native.Mathlib.Decide.{ℕ-discrete, decLt}
 use mathlib.Core.List.{List, [], _∷_}
 use lib.ListN.{length, getD, set, replicate, length-set, length-replicate, getD-replicate, List·getD-eq-default}
 use lib.Seq.{getD-set-same, getD-set-other}
-use Rattle.climb.specs.Queued.{Marked, isOne, markCount, At, Listed, Grown, Closed}
+use Rattle.climb.specs.Queued.{Marked, isOne, markCount, At, Listed, Grown, Closed, Kept}
 
 -- a mark counts at most once
 isOne-le : (x : ℕ) → isOne x ≤ 1
@@ -192,3 +192,11 @@ grow-same Q {q′ = q′} a p r = record {
   still = a .still;
   all = λ y m. a .all y (r y m);
 }
+
+-- an empty climb keeps the queue
+pub kept-none : (queue : List ℕ) (tail : ℕ) → Kept queue tail queue tail
+kept-none queue tail = record { longer = omega arith; kept = λ k l. refl }
+
+-- elements are offered, and then the queue is kept: what was queued before is kept
+pub kept-then : {P : ℕ → Type 0} {s q : List ℕ} {t : ℕ} {s′ q′ : List ℕ} {t′ : ℕ} {q″ : List ℕ} {t″ : ℕ} → Grown P s q t s′ q′ t′ → Kept q′ t′ q″ t″ → Kept q t q″ t″
+kept-then a b = record { longer = omega arith; kept = λ k l. b .kept k (omega arith) ∙ a .kept k l }

@@ -82,6 +82,11 @@ pub record Further (mem : List ℕ) (x : ℕ) (seen seen′ queue′ : List ℕ)
   pub marks : seen′ ≡ alsoMarks mem seen x
   pub still : Closed mem seen′ queue′ tail′
 
+-- the first `tail` places of the queue are kept: what is queued besides stands behind them
+pub record Kept (queue : List ℕ) (tail : ℕ) (queue′ : List ℕ) (tail′ : ℕ) : Type 0 where
+  pub longer : tail ≤ tail′
+  pub kept : (k : ℕ) → k < tail → getD queue′ k 0 ≡ getD queue k 0
+
 -- row k holds the marks of all that x is within, 512 bytes a row, and every other byte stays
 pub record RowMarked (mem : List ℕ) (x k : ℕ) (rows rows′ : List ℕ) : Type 0 where
   pub size : length rows′ ≡ length rows

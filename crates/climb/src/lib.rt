@@ -8,7 +8,7 @@ ghost use Rattle.model.specs.Calls.{contains};
 ghost use Rattle.table.specs.View.{policyOf, memory};
 ghost use Rattle.table.specs.Facts.{Table};
 ghost use Rattle.climb.specs.Marking.{marksOf};
-ghost use Rattle.climb.specs.Queued.{Container, Listed, Grown, Front, Closed, Climbed, Further, RowMarked};
+ghost use Rattle.climb.specs.Queued.{Container, Listed, Grown, Front, Closed, Climbed, Further, Kept, RowMarked};
 ghost use Rattle.climb.specs.Answers.{told};
 
 // What the plain containment call answers.
@@ -33,7 +33,7 @@ fn offer(y: u32, seen: &mut [u8; 512], queue: &mut [u32; 512], tail: usize) -> u
     tail + 1
 }
 
-// Offers each container of x, in order.
+// Offers each container of x, in order: the assignments of x stand together.
 fn offer_containers(
     mem: &[u32],
     x: u32,
@@ -47,9 +47,12 @@ fn offer_containers(
     ensures { λ r. ⌜ Grown (Container (now (mem .entry)) x) (now (seen .entry)) (now (queue .entry)) tail (now (seen .exit)) (now (queue .exit)) r ⌝ }
 {
     let mut t = tail;
+    let n = table::assignment_count(mem);
     let mut i = table::first_of(mem, x);
-    let end = table::first_of(mem, x + 1);
-    while i < end {
+    while i < n {
+        if x < table::child_at(mem, i) {
+            return t;
+        }
         t = offer(table::container_at(mem, i), seen, queue, t);
         i += 1;
     }
@@ -67,6 +70,7 @@ fn climb(
     requires { ⌜ Table (now mem) ⌝ }
     requires { ⌜ Front (now mem) (now seen) (now queue) head tail ⌝ }
     ensures { λ r. ⌜ Climbed (now (mem .entry)) (now (seen .entry)) (now (seen .exit)) (now (queue .exit)) r ⌝ }
+    ensures { λ r. ⌜ Kept (now (queue .entry)) tail (now (queue .exit)) r ⌝ }
 {
     if tail <= head {
         return tail;
@@ -87,6 +91,7 @@ pub fn climb_on(
     requires { ⌜ x < 512 ⌝ }
     requires { ⌜ Closed (now mem) (now seen) (now queue) tail ⌝ }
     ensures { λ r. ⌜ Further (now (mem .entry)) x (now (seen .entry)) (now (seen .exit)) (now (queue .exit)) r ⌝ }
+    ensures { λ r. ⌜ Kept (now (queue .entry)) tail (now (queue .exit)) r ⌝ }
 {
     let t = offer(x, seen, queue, tail);
     climb(mem, seen, queue, tail, t)

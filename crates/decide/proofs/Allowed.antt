@@ -14,6 +14,7 @@ use Rattle.request.specs.Sets.{rightsIn}
 use Rattle.rule.specs.declared.Asking.{Asking}
 use Rattle.held.specs.Lacking.{Rows, permits}
 use Rattle.decide.specs.Asks.{withRight, permitsOver, permitsAll}
+use Rattle.decide.proofs.Left.{Left, left-near, rights-below}
 
 -- one more in a list that is told off one by one: those that pass one test pass another exactly if those before it do, and it does where it passes the first
 all-those : {A : Type 0} (f h : A → Bool) (g : ℕ → A) (n : ℕ)
@@ -66,7 +67,6 @@ right-with-right q {a} {r} i l = let e : a .right ≡ r = ap (λ (b : Asking). b
 
 -- of the rights below n, each that is in the set is held over the element and not restricted
 pub record AllowedBelow (W : ℕ → ℕ → Bool) (p : Policy) (q : Asking) (rights n : ℕ) : Type 0 where
-  pub near : n ≤ 32
   pub so : allOf (permitsOver W p q) (those (hasRight rights) (tabulate n (λ r. r))) ≡ true
 
 -- Right by right.
@@ -74,27 +74,24 @@ module _ {W : ℕ → ℕ → Bool} {p : Policy} {q : Asking} {rights : ℕ} whe
   -- there is none below 0
   pub allowed-none : AllowedBelow W p q rights 0
   unfolding allOf those tabulate
-  allowed-none = record { near = omega arith; so = refl }
+  allowed-none = record { so = refl }
 
-  module _ {n : ℕ} (a : AllowedBelow W p q rights n) (l : n < 32) {s : Bool} (e : s ≡ (not (hasRight rights n) || permitsOver W p q n)) where
+  module _ {n left : ℕ} (a : AllowedBelow W p q rights n) (w : Left rights n left) (l : 0 < left) {s : Bool} (e : s ≡ (not (hasRight rights n) || permitsOver W p q n)) where
     -- one more is allowed
     pub allowed-more : not s ≡ false → AllowedBelow W p q rights (n + 1)
     allowed-more h =
         let one : n + 1 ≡ suc n = omega arith in
-        record {
-          near = omega arith;
-          so = rw (one, all-those (hasRight rights) (permitsOver W p q) (λ r. r) n, a .so) (sym e ∙ not-false s h);
-        }
+        record { so = rw (one, all-those (hasRight rights) (permitsOver W p q) (λ r. r) n, a .so) (sym e ∙ not-false s h) }
 
     -- one is not
     pub allowed-fails : not s ≡ true → false ≡ permitsAll W p q rights
     unfolding permitsAll rightsIn
     allowed-fails h =
         let k = or-fails (not (hasRight rights n)) (permitsOver W p q n) (sym e ∙ not-true s h) in
-        let i = in-those (hasRight rights) (in-tabulate 32 (λ r. r) n l) (not-false (hasRight rights n) (k .0)) in
+        let i = in-those (hasRight rights) (in-tabulate 32 (λ r. r) n (left-near w l)) (not-false (hasRight rights n) (k .0)) in
         sym (fails-when (permitsAll W p q rights) (λ t. clash (all-in (permitsOver W p q) t i) (k .1)))
 
-  -- each is allowed
-  pub allowed-all : {n : ℕ} → AllowedBelow W p q rights n → 32 ≤ n → true ≡ permitsAll W p q rights
-  unfolding permitsAll rightsIn
-  allowed-all {n} a h = let z : n ≡ 32 = omega (arith, a .near) in sym (rw z at (a .so))
+  -- none is left: each is allowed
+  pub allowed-all : {n left : ℕ} → AllowedBelow W p q rights n → Left rights n left → left ≤ 0 → true ≡ permitsAll W p q rights
+  unfolding permitsAll
+  allowed-all a w h = sym (rw (rights-below w h) (a .so))

@@ -1,3 +1,4 @@
+pub mod Left
 pub mod Allowed
 pub mod Sights
 pub mod Chosen

@@ -78,17 +78,19 @@ pub fn is_allowed(mem: &[u32], rows: &[u8], indexed: bool, q: Asking, rights: u3
     held::is_permitted(mem, rows, indexed, with_right(q, r))
 }
 
-// Whether each right of the set is held over the element and not restricted.
+// Whether each right of the set is held over the element and not restricted. The rights are asked from 0 up until none is left: most sets have one.
 fn are_allowed(mem: &[u32], rows: &[u8], indexed: bool, q: Asking, rights: u32) -> bool
     requires { ⌜ Table (now mem) ⌝ }
     requires { ⌜ Rows (now mem) (now rows) indexed q ⌝ }
     ensures { λ s. ⌜ s ≡ permitsAll (sight (now (mem .entry)) (now (rows .entry)) indexed) (policyOf (now (mem .entry))) q rights ⌝ }
 {
+    let mut left = rights;
     let mut r = 0;
-    while r < 32 {
+    while 0 < left {
         if !is_allowed(mem, rows, indexed, q, rights, r) {
             return false;
         }
+        left = left / 2;
         r += 1;
     }
     true

@@ -17,6 +17,7 @@ use Rattle.request.specs.Sets.{rightsIn}
 use Rattle.rule.specs.declared.Asking.{Asking}
 use Rattle.held.specs.Lacking.{sight}
 use Rattle.decide.specs.Asks.{permitsOver, permitsAll}
+use Rattle.decide.proofs.Left.{Left, left-near, rights-below}
 use Rattle.denials.specs.Failing.{firstOr32, firstFailingRight}
 
 -- Of the numbers that pass h, those that do not pass g.
@@ -55,16 +56,15 @@ module _ (h g : ℕ → Bool) where
 
 -- each right of the set below r is permitted
 pub record PermittedBelow (mem : List ℕ) (q : Asking) (rights r : ℕ) : Type 0 where
-  pub end : r ≤ 32
   pub each : (j : ℕ) → j < r → (not (hasRight rights j) || permitsOver (contained (policyOf mem)) (policyOf mem) q j) ≡ true
 
 -- The loop over the rights.
 module _ (mem : List ℕ) (q : Asking) (rights : ℕ) where
   -- none at the start
   pub permitted-none : PermittedBelow mem q rights 0
-  permitted-none = record { end = omega arith; each = λ j l. absurd (omega arith) }
+  permitted-none = record { each = λ j l. absurd (omega arith) }
 
-  module _ (rows : List ℕ) {r : ℕ} (p : PermittedBelow mem q rights r) (l : r < 32) {b : Bool}
+  module _ (rows : List ℕ) {r left : ℕ} (p : PermittedBelow mem q rights r) (w : Left rights r left) (l : 0 < left) {b : Bool}
       (is : b ≡ (not (hasRight rights r) || permitsOver (sight mem rows false) (policyOf mem) q r)) where
     -- what the rows say is what chains of assignments say
     by-contained : (not (hasRight rights r) || permitsOver (contained (policyOf mem)) (policyOf mem) q r) ≡ b
@@ -74,7 +74,6 @@ module _ (mem : List ℕ) (q : Asking) (rights : ℕ) where
     -- a turn
     pub permitted-more : not b ≡ false → PermittedBelow mem q rights (r + 1)
     permitted-more h = record {
-      end = omega arith;
       each = λ j k. elim (decLt j r) [
         | yes y ↦ p .each j y
         | no n ↦ let e : j ≡ r = omega arith in rw e (by-contained ∙ not-false b h)
@@ -85,13 +84,13 @@ module _ (mem : List ℕ) (q : Asking) (rights : ℕ) where
     pub right-fails : not b ≡ true → r ≡ firstFailingRight (policyOf mem) q rights
     unfolding firstFailingRight rightsIn
     right-fails h =
-        sym (first-found (hasRight rights) (permitsOver (contained (policyOf mem)) (policyOf mem) q) 32 r (λ j. j) l (by-contained ∙ not-true b h) (p .each))
+        sym (first-found (hasRight rights) (permitsOver (contained (policyOf mem)) (policyOf mem) q) 32 r (λ j. j) (left-near w l) (by-contained ∙ not-true b h) (p .each))
 
-  -- none fails
-  pub none-fails : {r : ℕ} → PermittedBelow mem q rights r → 32 ≤ r → 32 ≡ firstFailingRight (policyOf mem) q rights
-  unfolding firstFailingRight rightsIn
-  none-fails p h =
-      sym (first-none (hasRight rights) (permitsOver (contained (policyOf mem)) (policyOf mem) q) 32 (λ j. j) (λ j l. p .each j (omega (arith, p .end))))
+  -- none is left: none fails
+  pub none-fails : {r left : ℕ} → PermittedBelow mem q rights r → Left rights r left → left ≤ 0 → 32 ≡ firstFailingRight (policyOf mem) q rights
+  unfolding firstFailingRight
+  none-fails {r} p w h =
+      sym (rw (rights-below w h) (first-none (hasRight rights) (permitsOver (contained (policyOf mem)) (policyOf mem) q) r (λ j. j) (p .each)))
 
 -- each right of a set is below 32
 pub right-low : (rights : ℕ) {r : ℕ} → In r (rightsIn rights) → r < 32

@@ -81,17 +81,19 @@ fn cause(mem: &[u32], rows: &[u8], q: Asking) -> [u32; 2]
     [4, attribute]
 }
 
-// The first right of a set that is not permitted over the element, 32 where each is.
+// The first right of a set that is not permitted over the element, 32 where each is. The rights are asked from 0 up until none is left.
 fn first_failing(mem: &[u32], rows: &[u8], q: Asking, rights: u32) -> u32
     requires { ⌜ Table (now mem) ⌝ }
     requires { ⌜ Rows (now mem) (now rows) false q ⌝ }
     ensures { λ r. ⌜ r ≡ firstFailingRight (policyOf (now (mem .entry))) q rights ⌝ }
 {
+    let mut left = rights;
     let mut r = 0;
-    while r < 32 {
+    while 0 < left {
         if !decide::is_allowed(mem, rows, false, q, rights, r) {
             return r;
         }
+        left = left / 2;
         r += 1;
     }
     32

@@ -26,6 +26,7 @@ use Rattle.rule.specs.Parts.{classOf}
 use Rattle.rule.specs.declared.Asking.{Asking}
 use Rattle.held.specs.Lacking.{sight, Rows}
 use Rattle.decide.specs.Asks.{askingOf, withRight, AllRows}
+use Rattle.decide.proofs.Left.{Left, rights-below}
 use Rattle.grants.specs.Numbers.{classNumbers, rightNumbers, setNumbers, grantNumbers}
 use Rattle.grants.proofs.Below.{those-last, classes-below, no-class}
 
@@ -102,12 +103,9 @@ module _ (rights : ℕ) where
       → CountedBelow (hasRight rights) 0 (r + 1) (n + d)
   rights-more k e o = counted-more (hasRight rights) 0 k e o
 
-  -- all are counted
-  pub rights-end : {r n : ℕ} → r ≤ 32 → 32 ≤ r → CountedBelow (hasRight rights) 0 r n → AtMost (length (rightsIn rights)) 32 n
-  unfolding rightsIn
-  rights-end {r} l h k =
-      let e : r ≡ 32 = omega arith in
-      record { is = k .is ∙ ap (λ (i : ℕ). length (those (hasRight rights) (tabulate i (λ j. j)))) e; few = omega (arith, k .few) }
+  -- none is left: all are counted
+  pub rights-end : {r n left : ℕ} → CountedBelow (hasRight rights) 0 r n → Left rights r left → left ≤ 0 → AtMost (length (rightsIn rights)) 32 n
+  rights-end k w h = record { is = k .is ∙ ap length (sym (rights-below w h)); few = omega (arith, k .few, w .near) }
 
 -- parts of n rows each, joined
 joined-length : {A B : Type 0} (f : A → List B) (n : ℕ) → ((a : A) → length (f a) ≡ n) → (l : List A) → length (joined f l) ≡ length l * n

@@ -7,9 +7,10 @@ use Prim.Native.Nat.{ℕ, suc, _+_, _-_, _≤_, _<_}
 use native.Mathlib.Omega.{arith}
 use borrow.Author.Tests.{not-true, not-false}
 use lib.ListN.{length, getD, set, length-append}
-use Rattle.model.specs.Lists.{one}
+use Rattle.model.specs.Lists.{those, one, tabulate}
 use Rattle.model.specs.Policy.{Policy, hasRight}
 use Rattle.model.specs.Contain.{contained}
+use Rattle.model.specs.Explain.{joined}
 use Rattle.table.specs.Layout.{associationCount}
 use Rattle.table.specs.View.{associationsOf, associationAt, policyOf}
 use Rattle.request.specs.Sets.{rightsIn}
@@ -19,12 +20,13 @@ use Rattle.rule.specs.Parts.{classOf}
 use Rattle.rule.specs.declared.Asking.{Asking}
 use Rattle.held.specs.Lacking.{Rows}
 use Rattle.decide.specs.Asks.{askingOf, withRight}
+use Rattle.decide.proofs.Left.{Left, left-near, rights-below}
 use Rattle.lowest.specs.Named.{named, LowestOfFirst}
 use Rattle.grants.specs.Numbers.{lowestIn, classNumbers, namedNumbers, classRows, rightNumbers, ifRows, setNumbers, grantNumbers}
 use Rattle.grants.specs.Put.{Put}
 use Rattle.grants.proofs.Below.{below, joined-below, map-joined, classes-below, zero-other}
 use Rattle.grants.proofs.Placed.{put-none, put-one, put-then, put-start, put-more, put-room, put-end}
-use Rattle.grants.proofs.Counted.{rows-same, empty-rows}
+use Rattle.grants.proofs.Counted.{rows-same}
 
 -- The row with a named association.
 module _ (mem : List ℕ) (name : ℕ) (q : Asking) (alternative k c : ℕ) where
@@ -133,33 +135,35 @@ right-small q e l = rw e l
 
 -- The rows of a set, right by right.
 module _ (p : Policy) (q : Asking) (rights alternative k : ℕ) where
-  -- they are those of the rights below 32
-  set-below : setNumbers p q rights alternative k ≡ below (ifRows p q rights alternative k) 32
-  unfolding setNumbers rightsIn ifRows
-  set-below = joined-below (λ r. rightNumbers p (withRight q r) alternative k) (ifRows p q rights alternative k) (hasRight rights) (λ r. refl) 32
+  -- those of the rights below n
+  rights-rows : (n : ℕ) → joined (λ r. rightNumbers p (withRight q r) alternative k) (those (hasRight rights) (tabulate n (λ r. r)))
+      ≡ below (ifRows p q rights alternative k) n
+  unfolding ifRows
+  rights-rows n = joined-below (λ r. rightNumbers p (withRight q r) alternative k) (ifRows p q rights alternative k) (hasRight rights) (λ r. refl) n
 
-  -- of the empty set none is written
-  pub set-none : rights ≡ 0 → (out : List (List ℕ)) (at : ℕ) → Put out at (setNumbers p q rights alternative k) out at
-  set-none e out at = rw (e, empty-rows p q alternative k) (put-none out at)
+  -- all are those of the rights below 32
+  set-below : setNumbers p q rights alternative k ≡ below (ifRows p q rights alternative k) 32
+  unfolding setNumbers rightsIn
+  set-below = rights-rows 32
 
   -- none is written at first
   pub set-start : (out : List (List ℕ)) (at : ℕ) → Put out at (below (ifRows p q rights alternative k) 0) out at
   set-start out at = put-start (ifRows p q rights alternative k) out at
 
-  module _ {r : ℕ} (l : r < 32) {out out₁ : List (List ℕ)} {at t : ℕ} (w : Put out at (below (ifRows p q rights alternative k) r) out₁ t) where
+  module _ {r left : ℕ} (s : Left rights r left) {out out₁ : List (List ℕ)} {at t : ℕ} (w : Put out at (below (ifRows p q rights alternative k) r) out₁ t) where
     -- the rows of the next right have room
-    pub set-room : at + length (setNumbers p q rights alternative k) ≤ length out → t + length (ifRows p q rights alternative k r) ≤ length out₁
-    set-room h = put-room (ifRows p q rights alternative k) 32 r l (rw set-below at h) w
+    pub set-room : 0 < left → at + length (setNumbers p q rights alternative k) ≤ length out → t + length (ifRows p q rights alternative k r) ≤ length out₁
+    set-room l h = put-room (ifRows p q rights alternative k) 32 r (left-near s l) (rw set-below at h) w
 
     -- and are written
-    pub set-more : {out₂ : List (List ℕ)} {s : ℕ} → Put out₁ t (ifRows p q rights alternative k r) out₂ s
-        → Put out at (below (ifRows p q rights alternative k) (r + 1)) out₂ s
+    pub set-more : {out₂ : List (List ℕ)} {u : ℕ} → Put out₁ t (ifRows p q rights alternative k r) out₂ u
+        → Put out at (below (ifRows p q rights alternative k) (r + 1)) out₂ u
     set-more v = put-more (ifRows p q rights alternative k) r w v
 
-  -- all are written
-  pub set-end : {r : ℕ} → r ≤ 32 → 32 ≤ r → {out out₁ : List (List ℕ)} {at t : ℕ} → Put out at (below (ifRows p q rights alternative k) r) out₁ t
-      → Put out at (setNumbers p q rights alternative k) out₁ t
-  set-end {r} l h w = rw set-below (put-end (ifRows p q rights alternative k) 32 r l h w)
+    -- none is left: all are written
+    pub set-end : left ≤ 0 → Put out at (setNumbers p q rights alternative k) out₁ t
+    unfolding setNumbers
+    set-end h = rw (rights-below s h, rights-rows r) w
 
 -- The rows of a set over what is asked, as the code makes it.
 module _ {x y : Asking} (e : x ≡ y) where

@@ -43,14 +43,16 @@ fn one_if(so: bool) -> usize
     0
 }
 
-// How many rights a set has.
+// How many rights a set has. They are told off from 0 up until none is left, here and in `put_set`.
 fn count_rights(rights: u32) -> usize
     ensures { λ r. ⌜ AtMost (length (rightsIn rights)) 32 r ⌝ }
 {
     let mut n = 0;
+    let mut left = rights;
     let mut r = 0;
-    while r < 32 {
+    while 0 < left {
         n += one_if(rule::has_right(rights, r));
+        left = left / 2;
         r += 1;
     }
     n
@@ -209,13 +211,12 @@ fn put_set(
     requires { ⌜ at + length (setNumbers (policyOf (now mem)) q rights alternative k) ≤ length (now out) ⌝ }
     ensures { λ r. ⌜ Put (now (out .entry)) at (setNumbers (policyOf (now (mem .entry))) q rights alternative k) (now (out .exit)) r ⌝ }
 {
-    if rights == 0 {
-        return at;
-    }
     let mut t = at;
+    let mut left = rights;
     let mut r = 0;
-    while r < 32 {
+    while 0 < left {
         t = put_if(mem, rows, q, rights, r, alternative, k, out, t);
+        left = left / 2;
         r += 1;
     }
     t

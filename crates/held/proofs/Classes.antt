@@ -60,12 +60,7 @@ module _ (E : ℕ → Bool) (mem : List ℕ) where
   unfolding classesOf
   class-high i = class-id mem (those-in E (classes (policyOf mem)) i) .high
 
-  -- the element is within it
-  pub class-within : {c : ℕ} → In c (classesOf E (policyOf mem)) → E c ≡ true
-  unfolding classesOf
-  class-within i = those-pass E (classes (policyOf mem)) i
-
-  -- the test passes for it
+  -- the test passes for each class of the element
   pub class-passes : {c : ℕ} → In c (classesOf E (policyOf mem)) → classOf E (policyOf mem) c ≡ true
   unfolding classesOf classOf
   class-passes {c} i =

@@ -19,9 +19,9 @@ use Rattle.rule.specs.Sight.{seen}
 use Rattle.rule.specs.Parts.{classOf}
 use Rattle.rule.specs.declared.Asking.{Asking}
 use Rattle.held.specs.Lacking.{lackOf}
-use Rattle.held.specs.Passing.{PassesBy}
+use Rattle.held.specs.Passing.{NextClass}
 use Rattle.held.specs.Giving.{givenByFirst, GivenMarks, GivenBits}
-use Rattle.held.proofs.Classes.{class-low, class-high, class-within, class-passes, passes-class, lack-no-class, lack-nothing, lack-lowest}
+use Rattle.held.proofs.Classes.{class-low, class-high, class-passes, passes-class, lack-no-class, lack-nothing, lack-lowest}
 use Rattle.held.proofs.Associations.{given-all, given-some, digit-low, digit-high, marks-none, bits-none}
 
 -- whether the element has a class below c: 0 where it has none, 512 where it has one
@@ -50,27 +50,24 @@ module _ (U E : ℕ → Bool) (T : ℕ → ℕ → Bool) (mem : List ℕ) (r : �
 
 -- The turns, by any rows.
 module _ {U E : ℕ → Bool} {T : ℕ → ℕ → Bool} {mem : List ℕ} {r : ℕ} where
+  -- from c on below n there is no class of the element
+  far-to : {c lacked : ℕ} → Far U E T mem r c lacked → (n : ℕ) → ((y : ℕ) → c ≤ y → y < n → classOf E (policyOf mem) y ≡ false) → Far U E T mem r n lacked
+  far-to {c} f n none = record { given = λ d k i. f .given d (below d k i) i; met = on (f .met) }
+    where
+      below : (d : ℕ) → d < n → In d (classesOf E (policyOf mem)) → d < c
+      below d k i = elim (decLt d c) [
+        | yes y ↦ y
+        | no y ↦ absurd (clash (class-passes E mem i) (none d (omega arith) k))
+      ]
+
+      on : {lacked : ℕ} → Met E mem c lacked → Met E mem n lacked
+      on (none-met m) = none-met (λ d k i. m d (below d k i) i)
+      on (one-met i) = one-met i
+
   module _ {c lacked : ℕ} (f : Far U E T mem r c lacked) (l : c < 512) {b : Bool} (e : b ≡ classOf E (policyOf mem) c) where
-    -- c is no class of the element, and it is within none of the ids between c and n
-    far-to : not b ≡ true → (n : ℕ) → ((y : ℕ) → c < y → y < n → E y ≡ false) → Far U E T mem r n lacked
-    far-to h n none = record { given = λ d k i. f .given d (below d k i) i; met = on (f .met) }
-      where
-        below : (d : ℕ) → d < n → In d (classesOf E (policyOf mem)) → d < c
-        below d k i = elim (decLt d c) [
-          | yes y ↦ y
-          | no y ↦ elim (decLt c d) [
-            | yes z ↦ absurd (clash (class-within E mem i) (none d z k))
-            | no z ↦ let q : d ≡ c = omega arith in absurd (clash (class-passes E mem (subst (λ (x : ℕ). In x (classesOf E (policyOf mem))) q i)) (sym e ∙ not-true b h))
-          ]
-        ]
-
-        on : {lacked : ℕ} → Met E mem c lacked → Met E mem n lacked
-        on (none-met m) = none-met (λ d k i. m d (below d k i) i)
-        on (one-met i) = one-met i
-
     -- c is no class of the element
     far-on : not b ≡ true → Far U E T mem r (c + 1) lacked
-    far-on h = far-to h (c + 1) (λ y a z. absurd (omega arith))
+    far-on h = far-to f (c + 1) (λ y a z. let q : c ≡ y = omega arith in subst (λ (x : ℕ). classOf E (policyOf mem) x ≡ false) q (sym e ∙ not-true b h))
 
     -- it is one
     far-class : not b ≡ false → AtClass U E T mem r c lacked
@@ -158,9 +155,10 @@ module _ {mem rows : List ℕ} {q : Asking} {n c lacked i : ℕ} {given queue : 
       class-lacks (a .at) i (omega (arith, a .far .counted, a .far .few))
       (digit-low isMarked (omega (arith, a .far .marks .is c (a .at .small))))
 
--- The loop over the classes, by the bits of an index: how far it has come, with i of the n associations seen.
+-- The loop over the classes, by the bits of an index: how far it has come, to a class or past the last, with i of the n associations seen.
 pub record FarBits (mem idx : List ℕ) (q : Asking) (n c lacked i : ℕ) (given : List ℕ) : Type 0 where
   pub far : Far (seen idx true (q .by)) (seen idx true (q .over)) (bitAt idx) mem (q .right) c lacked
+  pub its-class : c < 512 → In c (classesOf (seen idx true (q .over)) (policyOf mem))
   pub bits : GivenBits mem idx q i given
   pub counted : n ≡ associationCount mem
   pub few : i ≤ n
@@ -170,20 +168,26 @@ pub record AtBits (mem idx : List ℕ) (q : Asking) (n c lacked i : ℕ) (given 
   pub far : FarBits mem idx q n c lacked i given
   pub at : AtClass (seen idx true (q .by)) (seen idx true (q .over)) (bitAt idx) mem (q .right) c lacked
 
+-- on to the next class
+bit-to : {mem idx : List ℕ} {q : Asking} {n c lacked i : ℕ} {given : List ℕ}
+    → Far (seen idx true (q .by)) (seen idx true (q .over)) (bitAt idx) mem (q .right) c lacked → GivenBits mem idx q i given → n ≡ associationCount mem → i ≤ n
+    → {s : ℕ} → NextClass mem idx (q .over) c 512 s → FarBits mem idx q n s lacked i given
+bit-to {mem} {idx} {q} f g k m {s} p = record {
+  far = far-to f s (p .none);
+  its-class = λ l. passes-class (seen idx true (q .over)) mem (p .its-class l);
+  bits = g;
+  counted = k;
+  few = m;
+}
+
 -- it starts
-pub bit-start : (mem idx : List ℕ) (q : Asking) {n : ℕ} → n ≡ associationCount mem → FarBits mem idx q n 1 0 0 (replicate 64 0)
-bit-start mem idx q k = record { far = far-none (seen idx true (q .by)) (seen idx true (q .over)) (bitAt idx) mem (q .right); bits = bits-none mem idx q; counted = k; few = omega arith }
+pub bit-start : (mem idx : List ℕ) (q : Asking) {n : ℕ} → n ≡ associationCount mem → {s : ℕ} → NextClass mem idx (q .over) 1 512 s → FarBits mem idx q n s 0 0 (replicate 64 0)
+bit-start mem idx q k p = bit-to (far-none (seen idx true (q .by)) (seen idx true (q .over)) (bitAt idx) mem (q .right)) (bits-none mem idx q) k (omega arith) p
 
 module _ {mem idx : List ℕ} {q : Asking} {n c lacked i : ℕ} {given : List ℕ} (f : FarBits mem idx q n c lacked i given) where
-  module _ (l : c < 512) {b : Bool} (e : b ≡ classOf (seen idx true (q .over)) (policyOf mem) c) where
-    -- c is no class of the element, and the ids between c and s are passed by
-    pub bit-on : not b ≡ true → {s : ℕ} → PassesBy idx (q .over) c s → FarBits mem idx q n s lacked i given
-    unfolding seen
-    bit-on h {s} p = record { far = far-to (f .far) l e h s (p .none); bits = f .bits; counted = f .counted; few = f .few }
-
-    -- it is one
-    pub bit-class : not b ≡ false → AtBits mem idx q n c lacked i given
-    bit-class h = record { far = f; at = far-class (f .far) l e h }
+  -- at a class
+  pub bit-class : c < 512 → AtBits mem idx q n c lacked i given
+  bit-class l = record { far = f; at = record { far = f .far; small = l; its-class = f .its-class l } }
 
   -- past the last class
   pub bit-end : 512 ≤ c → lacked ≡ lackOf (seen idx true (q .by)) (seen idx true (q .over)) (bitAt idx) (policyOf mem) (q .right)
@@ -192,17 +196,15 @@ module _ {mem idx : List ℕ} {q : Asking} {n c lacked i : ℕ} {given : List �
 module _ {mem idx : List ℕ} {q : Asking} {n c lacked i : ℕ} {given : List ℕ} (a : AtBits mem idx q n c lacked i given) where
   -- one association more
   pub bit-more : i < n → {given′ : List ℕ} → GivenBits mem idx q (i + 1) given′ → AtBits mem idx q n c lacked (i + 1) given′
-  bit-more l g = record { far = record { far = a .far .far; bits = g; counted = a .far .counted; few = omega arith }; at = a .at }
+  bit-more l g = record { far = record { far = a .far .far; its-class = a .far .its-class; bits = g; counted = a .far .counted; few = omega arith }; at = a .at }
 
   module _ {s : Bool} (t : s ≡ bitAt given 0 c) where
     -- its bit is 1: they give it
-    pub bit-given : not s ≡ false → FarBits mem idx q n (c + 1) 512 i given
-    bit-given o = record {
-      far = class-given (a .at) i (omega (arith, a .far .counted, a .far .few)) (sym (a .far .bits .is c (a .at .small)) ∙ sym t ∙ not-false s o);
-      bits = a .far .bits;
-      counted = a .far .counted;
-      few = a .far .few;
-    }
+    pub bit-given : not s ≡ false → {c′ : ℕ} → NextClass mem idx (q .over) (c + 1) 512 c′ → FarBits mem idx q n c′ 512 i given
+    bit-given o p =
+        bit-to
+        (class-given (a .at) i (omega (arith, a .far .counted, a .far .few)) (sym (a .far .bits .is c (a .at .small)) ∙ sym t ∙ not-false s o))
+        (a .far .bits) (a .far .counted) (a .far .few) p
 
     -- its bit is 0, and all associations have been seen
     pub bit-lacks : n ≤ i → not s ≡ true → c ≡ lackOf (seen idx true (q .by)) (seen idx true (q .over)) (bitAt idx) (policyOf mem) (q .right)

@@ -1,7 +1,7 @@
 // Whether a right is held over an element, and what lacks for it: in each class of the element some association must give it.
 ghost use mathlib.Core.Path.{_≡_};
 ghost use mathlib.Core.Bool.{true, false};
-ghost use Prim.Native.Nat.{_+_, _<_};
+ghost use Prim.Native.Nat.{_+_, _*_, _/_, _≤_, _<_};
 ghost use lib.ListN.{length};
 ghost use Rattle.model.specs.Contain.{contained};
 ghost use Rattle.model.specs.Index.{bitAt};
@@ -11,7 +11,7 @@ ghost use Rattle.table.specs.Facts.{Table};
 ghost use Rattle.rule.specs.Sight.{seen};
 ghost use Rattle.held.specs.Lacking.{lackOf, lackBy, sight, Rows, permits};
 ghost use Rattle.held.specs.Giving.{GivenMarks, GivenBits};
-ghost use Rattle.held.specs.Passing.{zeroByte, PassesBy};
+ghost use Rattle.held.specs.Passing.{zeroByte, NextClass};
 use rule::Asking;
 
 // What `lack` answers where the right is held.
@@ -92,13 +92,10 @@ fn give_by_index(mem: &[u32], idx: &[u8], q: Asking, i: usize, given: &mut [u8])
     index::join_row(idx, target, given);
 }
 
-// Whether y is below 512 and the byte of row x in which its bit stands is zero, as it is where the bytes do not reach.
+// Whether the byte of row x in which the bit of y stands is zero, as it is where the bytes do not reach.
 fn is_zero_byte(idx: &[u8], x: u32, y: u32) -> bool
     ensures { λ r. ⌜ r ≡ zeroByte (now (idx .entry)) x y ⌝ }
 {
-    if 511 < y {
-        return false;
-    }
     let place = 64 * (x as usize) + (y / 8) as usize;
     if idx.len() <= place {
         return true;
@@ -106,19 +103,40 @@ fn is_zero_byte(idx: &[u8], x: u32, y: u32) -> bool
     idx[place] == 0
 }
 
-// An id behind c, or 512: of the ids between, none has a bit in row x. Where a byte of the row begins behind c, zero bytes are passed by.
-fn next_id(idx: &[u8], x: u32, c: u32) -> u32
-    requires { ⌜ c < 512 ⌝ }
-    ensures { λ r. ⌜ PassesBy (now (idx .entry)) x c r ⌝ }
+// The least class of the element of row x from d on, below the end of the byte in which the bit of d stands; `end` where there is none.
+fn class_in_byte(mem: &[u32], idx: &[u8], x: u32, d: u32, end: u32) -> u32
+    requires { ⌜ Table (now mem) ⌝ }
+    requires { ⌜ end ≡ d / 8 * 8 + 8 ⌝ }
+    ensures { λ r. ⌜ NextClass (now (mem .entry)) (now (idx .entry)) x d end r ⌝ }
 {
-    let mut y = c + 1;
-    if 0 < y % 8 {
-        return y;
+    if is_zero_byte(idx, x, d) {
+        return end;
     }
-    while is_zero_byte(idx, x, y) {
-        y += 8;
+    let mut y = d;
+    while y < end {
+        if rule::is_class_of(mem, idx, true, x, y) {
+            return y;
+        }
+        y += 1;
     }
-    y
+    end
+}
+
+// The least class of the element of row x from c on, 512 where there is none: a byte without a bit is passed by.
+fn next_class(mem: &[u32], idx: &[u8], x: u32, c: u32) -> u32
+    requires { ⌜ Table (now mem) ⌝ }
+    requires { ⌜ c ≤ 512 ⌝ }
+    ensures { λ r. ⌜ NextClass (now (mem .entry)) (now (idx .entry)) x c 512 r ⌝ }
+{
+    let mut d = c;
+    while d < 512 {
+        let end = d / 8 * 8 + 8;
+        d = class_in_byte(mem, idx, x, d, end);
+        if d < end {
+            return d;
+        }
+    }
+    512
 }
 
 // What lacks for the right to be held, by the bits of an index.
@@ -132,12 +150,8 @@ fn lack_by_index(mem: &[u32], idx: &[u8], q: Asking) -> u32
     let mut given = [0u8; 64];
     let mut lacked = NO_CLASS;
     let mut i = 0;
-    let mut c = 1;
+    let mut c = next_class(mem, idx, q.over, 1);
     'classes: while c < 512 {
-        if !rule::is_class_of(mem, idx, true, q.over, c) {
-            c = next_id(idx, q.over, c);
-            continue 'classes;
-        }
         while !index::bit(&given, 0, c) {
             if n <= i {
                 lacked = c;
@@ -147,7 +161,7 @@ fn lack_by_index(mem: &[u32], idx: &[u8], q: Asking) -> u32
             i += 1;
         }
         lacked = HELD;
-        c += 1;
+        c = next_class(mem, idx, q.over, c + 1);
     }
     lacked
 }

@@ -5,4 +5,5 @@ pub mod Firsts
 pub mod Naming
 pub mod Taken
 pub mod InOrder
+pub mod Queued
 pub mod Rising

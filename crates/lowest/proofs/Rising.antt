@@ -1,74 +1,31 @@
 -- Where the associations rise, they are taken into account one after another: each is the lowest wherever none is named yet.
 -- Assumes nothing.
-use mathlib.Core.Path.{_≡_, refl, sym, ap, _∙_}
+use mathlib.Core.Path.{_≡_, refl, sym, ap, subst, _∙_}
 use mathlib.Core.Bool.{Bool, true, false, not, cond, _||_, or-true}
 use mathlib.Core.List.{List}
+use mathlib.Core.Logic.{inl, inr}
 use Prim.Native.Nat.{ℕ, zero, suc, _+_, _≤_, _<_}
 use native.Mathlib.Omega.{arith}
-use native.Mathlib.Decide.{ℕ-discrete}
-use borrow.Author.Tests.{eq-eqb, ne-eqb}
+use native.Mathlib.Decide.{ℕ-discrete, decLt}
 use lib.Dec.{eqb}
-use lib.ListN.{getD, set, replicate}
+use lib.ListN.{getD, replicate}
 use Rattle.model.specs.Bits.{digit}
 use Rattle.model.specs.Contain.{contained}
 use Rattle.model.proofs.Truth.{Tested, passes, fails, tested}
 use Rattle.table.specs.Layout.{associationCount}
 use Rattle.table.specs.View.{policyOf, associationAt}
-use Rattle.climb.specs.Queued.{Further}
-use Rattle.climb.proofs.Queue.{zeros, closed-none}
+use Rattle.climb.specs.Queued.{At, Further, Kept}
+use Rattle.climb.proofs.Queue.{zeros, closed-none, marked-small}
 use Rattle.climb.proofs.Exactly.{mark-also}
 use Rattle.rule.specs.declared.Asking.{Asking}
 use Rattle.rule.specs.Sight.{seen}
 use Rattle.rule.specs.Parts.{offers}
 use Rattle.held.specs.Lacking.{Rows}
-use Rattle.lowest.specs.Named.{isLower, isLowerAtTarget, lowerName, NamesOfFirst, LoweredAbove}
-use Rattle.lowest.specs.Marked.{associationsRise, firstName, FirstNamed, LowestMarked}
+use Rattle.lowest.specs.Named.{isLower, isLowerAtTarget, lowerName, LoweredAbove}
+use Rattle.lowest.specs.Marked.{associationsRise, firstName, ClassesQueued, Behind, FirstQueued, LowestMarked}
 use Rattle.lowest.proofs.InOrder.{none-before}
-use Rattle.lowest.proofs.Setting.{SetTo, set-more}
+use Rattle.lowest.proofs.Queued.{first-stays, first-some}
 use Rattle.lowest.proofs.Taken.{taken-none, taken-kept, taken-lowered, taken-start}
-
--- what is named stays
-first-stays : (name i : ℕ) → 0 < name → firstName name i ≡ name
-unfolding firstName
-first-stays zero i l = absurd (omega arith)
-first-stays (suc j) i l = refl
-
--- where none is named, association i is
-first-next : (name i : ℕ) → name ≡ 0 → firstName name i ≡ suc i
-unfolding firstName
-first-next name i e = rw e
-
--- one is named then
-first-some : (name i : ℕ) → 0 < firstName name i
-unfolding firstName
-first-some zero i = omega arith
-first-some (suc j) i = omega arith
-
--- a mark: the name that is there stays
-pub marked-stays : (mark name i : ℕ) → (mark ≡ 0 → ⊥) → 0 < name → name ≡ cond (eqb mark 0) name (firstName name i)
-marked-stays mark name i d l = rw (ne-eqb mark 0 d) (sym (first-stays name i l))
-
--- a mark and no name: association i is named
-pub marked-next : (mark name i : ℕ) → (mark ≡ 0 → ⊥) → name ≤ 0 → i + 1 ≡ cond (eqb mark 0) name (firstName name i)
-marked-next mark name i d l =
-    let e : name ≡ 0 = omega arith in
-    rw (ne-eqb mark 0 d) (let s : i + 1 ≡ suc i = omega arith in s ∙ sym (first-next name i e))
-
--- what class c names then
-unfoldable pub firstAt : (marks : List ℕ) (i : ℕ) (names : List ℕ) (c : ℕ) → ℕ
-firstAt marks i names c = cond (eqb (getD marks c 0) 0) (getD names c 0) (firstName (getD names c 0) i)
-
--- one class more
-pub first-more : (marks : List ℕ) (i : ℕ) {n : ℕ} {names names′ : List ℕ} {r : ℕ} → SetTo (firstAt marks i names) n names names′ → n < 512
-    → r ≡ cond (eqb (getD marks n 0) 0) (getD names′ n 0) (firstName (getD names′ n 0) i) → SetTo (firstAt marks i names) (n + 1) names (set names′ n r)
-unfolding firstAt
-first-more marks i {n} {names} {names′} l h er =
-    set-more l h (er ∙ ap (λ (x : ℕ). cond (eqb (getD marks n 0) 0) x (firstName x i)) (l .rest n (omega arith)))
-
--- all of them
-pub first-all : (marks : List ℕ) (i : ℕ) {n : ℕ} {names names′ : List ℕ} → SetTo (firstAt marks i names) n names names′ → 512 ≤ n → FirstNamed marks i names names′
-unfolding firstAt
-first-all marks i l h = record { size = l .size; is = λ c k. l .done c (omega arith) }
 
 -- a mark is the bit of whether it is set
 mark-bit : (m : ℕ) → m ≤ 1 → digit (eqb m 1 || false) ≡ m
@@ -77,9 +34,13 @@ mark-bit zero l = refl
 mark-bit (suc zero) l = refl
 mark-bit (suc (suc m)) l = absurd (omega arith)
 
--- each name is that of one of the first i associations, or of none
-pub few-names : {mem : List ℕ} {q : Asking} {i : ℕ} {names seen queue : List ℕ} {tail : ℕ} → LowestMarked mem q i names seen queue tail → NamesOfFirst i names
-few-names l = record { size = l .lowest .size; few = l .lowest .few }
+-- what is queued after the climb are classes
+pub queued-classes : {mem : List ℕ} {s : ℕ} {marks marks′ queue′ : List ℕ} {tail′ : ℕ} → Further mem s marks marks′ queue′ tail′ → ClassesQueued queue′ tail′
+queued-classes {queue′} f = record {
+  room = f .still .good .room;
+  short = f .still .good .short;
+  small = λ k l. marked-small (f .still .good) (getD queue′ k 0) (f .still .good .marked k l);
+}
 
 -- One association more, where they rise.
 module _ {mem rows : List ℕ} {q : Asking} {i : ℕ} {names marks queue : List ℕ} {tail : ℕ} (l : LowestMarked mem q i names marks queue tail) (t : Rows mem rows false q)
@@ -112,8 +73,9 @@ module _ {mem rows : List ℕ} {q : Asking} {i : ℕ} {names marks queue : List 
         lower : isLowerAtTarget mem i names ≡ false
         lower = rw (← es) (not-lower (getD names s 0) (l .lowest .few s small) (l .some s small m))
 
-    -- all that its target is within is marked besides, and it is named where it is marked and none is named
-    module _ {marks′ queue′ : List ℕ} {tail′ : ℕ} (f : Further mem s marks marks′ queue′ tail′) {names′ : List ℕ} (w : FirstNamed marks′ i names names′) where
+    -- all that its target is within is marked besides, and it is named where what is marked besides is queued
+    module _ {marks′ queue′ : List ℕ} {tail′ : ℕ} (f : Further mem s marks marks′ queue′ tail′) (g : Kept queue tail queue′ tail′) {names′ : List ℕ}
+        (w : FirstQueued queue′ tail tail′ i names names′) where
       -- each mark then
       mark : (c : ℕ) → c < 512 → getD marks′ c 0 ≡ digit (eqb (getD marks c 0) 1 || contained (policyOf mem) s c)
       mark c k = ap (λ (m : List ℕ). getD m c 0) (f .marks) ∙ mark-also mem marks s c k
@@ -136,11 +98,30 @@ module _ {mem rows : List ℕ} {q : Asking} {i : ℕ} {names marks queue : List 
 
       -- a class that is not marked keeps its name
       name-kept : (c : ℕ) → c < 512 → getD marks′ c 0 ≡ 0 → getD names′ c 0 ≡ getD names c 0
-      name-kept c k z = w .is c k ∙ (rw (eq-eqb (getD marks′ c 0) 0 z))
+      name-kept c k z = elim (w .only c) [
+        | inl e ↦ e
+        | inr b ↦ let m : getD marks′ c 0 ≡ 1 = subst (λ (x : ℕ). getD marks′ x 0 ≡ 1) (b .is) (f .still .good .marked (b .at) (b .early)) in absurd (omega arith)
+      ]
+
+      -- one that is marked and names none is queued behind what was marked
+      behind : (c : ℕ) → c < 512 → (getD marks′ c 0 ≡ 0 → ⊥) → getD names c 0 ≡ 0 → Behind queue′ tail tail′ c
+      behind c k d z = go (f .still .good .listed c k (omega (arith, d, f .still .good .bit c)))
+        where
+          go : At queue′ tail′ c → Behind queue′ tail tail′ c
+          go a = elim (decLt (a .at) tail) [
+            | yes b ↦
+                let e : getD queue (a .at) 0 ≡ c = sym (g .kept (a .at) b) ∙ a .is in
+                let m : getD marks c 0 ≡ 1 = subst (λ (x : ℕ). getD marks x 0 ≡ 1) e (l .closed .good .marked (a .at) b) in
+                absurd (omega (arith, l .some c k (omega arith)))
+            | no b ↦ record { at = a .at; late = omega arith; early = a .early; is = a .is }
+          ]
 
       -- one that is marked has the first
       name-first : (c : ℕ) → c < 512 → (getD marks′ c 0 ≡ 0 → ⊥) → getD names′ c 0 ≡ firstName (getD names c 0) i
-      name-first c k d = w .is c k ∙ (rw (ne-eqb (getD marks′ c 0) 0 d))
+      name-first c k d = elim (ℕ-discrete (getD names c 0) 0) [
+        | yes z ↦ w .first c (behind c k d z)
+        | no s ↦ elim (w .only c) [ inl e ↦ e ∙ sym (first-stays (getD names c 0) i (omega (arith, s))) | inr b ↦ w .first c b ]
+      ]
 
       -- the lower one is named in each class that the target is within
       lowered : LoweredAbove mem i names names′

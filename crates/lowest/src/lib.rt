@@ -8,7 +8,7 @@ ghost use Rattle.table.specs.Layout.{associationCount};
 ghost use Rattle.table.specs.Facts.{Table};
 ghost use Rattle.held.specs.Lacking.{Rows};
 ghost use Rattle.lowest.specs.Named.{isBefore, isLower, isLowerAtTarget, lowerName, NamesOfFirst, LoweredAbove, LowestOfFirst};
-ghost use Rattle.lowest.specs.Marked.{associationsRise, firstName, FirstNamed, LowestMarked};
+ghost use Rattle.lowest.specs.Marked.{associationsRise, firstName, ClassesQueued, FirstQueued, LowestMarked};
 use rule::Asking;
 
 // Whether association i is before association j, by user attribute, target, then rights.
@@ -153,31 +153,30 @@ fn are_rising(mem: &[u32]) -> bool
     true
 }
 
-// The name that a class keeps when association i authorizes the right where the mark is not 0, and is lower than none that is named.
-fn kept_or_first(mark: u8, name: u32, i: usize) -> u32
+// What is named, association i where none is.
+fn first_name(name: u32, i: usize) -> u32
     requires { ⌜ i < 1000 ⌝ }
-    ensures { λ r. ⌜ r ≡ cond (eqb mark 0) name (firstName name i) ⌝ }
+    ensures { λ r. ⌜ r ≡ firstName name i ⌝ }
 {
-    if mark == 0 {
-        return name;
-    }
     if 0 < name {
         return name;
     }
     i as u32 + 1
 }
 
-// Names association i in each class that is marked and names none.
-fn name_marked(marks: &[u8; 512], i: usize, names: &mut [u32; 512])
-    requires { ⌜ length (now marks) ≡ 512 ⌝ }
+// Names association i in each class that stands in the queue from `tail` on and names none.
+fn name_queued(queue: &[u32; 512], tail: usize, t: usize, i: usize, names: &mut [u32; 512])
+    requires { ⌜ ClassesQueued (now queue) t ⌝ }
+    requires { ⌜ tail ≤ t ⌝ }
     requires { ⌜ i < 1000 ⌝ }
-    requires { ⌜ NamesOfFirst i (now names) ⌝ }
-    ensures { λ _. ⌜ FirstNamed (now (marks .entry)) i (now (names .entry)) (now (names .exit)) ⌝ }
+    requires { ⌜ length (now names) ≡ 512 ⌝ }
+    ensures { λ _. ⌜ FirstQueued (now (queue .entry)) tail t i (now (names .entry)) (now (names .exit)) ⌝ }
 {
-    let mut c = 0;
-    while c < 512 {
-        names[c] = kept_or_first(marks[c], names[c], i);
-        c += 1;
+    let mut k = tail;
+    while k < t {
+        let c = queue[k] as usize;
+        names[c] = first_name(names[c], i);
+        k += 1;
     }
 }
 
@@ -210,7 +209,8 @@ fn name_first(
         return tail;
     }
     let t = climb::climb_on(mem, target, seen, queue, tail);
-    name_marked(seen, i, names);
+    // what is marked besides is queued behind what was
+    name_queued(queue, tail, t, i, names);
     t
 }
 

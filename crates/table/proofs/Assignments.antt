@@ -3,7 +3,7 @@
 use mathlib.Core.Path.{_≡_, refl, sym, ap, subst, _∙_}
 use mathlib.Core.Bool.{true, false, _&&_}
 use mathlib.Core.List.{List}
-use Prim.Native.Nat.{ℕ, _+_, _*_, _/_, _%_, _≤_, _<_}
+use Prim.Native.Nat.{ℕ, _+_, _*_, _/_, _%_, _≤_, _<_, _-_}
 use native.Mathlib.Omega.{arith}
 use native.Mathlib.Decide.{decLt}
 use borrow.Author.Tests.{eq-eqb, eqb-true}
@@ -12,7 +12,7 @@ use Rattle.model.specs.Lists.{In, anyOf}
 use Rattle.model.specs.Policy.{Assignment, isAssigned}
 use Rattle.model.specs.Contain.{Assigned}
 use Rattle.model.proofs.Truth.{and-left, and-right, and-join, fails-when, Found, any-in, any-found}
-use Rattle.table.specs.Layout.{assignmentCount, assignmentWord}
+use Rattle.table.specs.Layout.{word, assignmentsFrom, assignmentCount, assignmentWord}
 use Rattle.table.specs.View.{assignmentAt, assignmentsOf, policyOf}
 use Rattle.table.specs.Facts.{Table, FirstOf, AmongFirst}
 use Rattle.table.proofs.Tabled.{in-tabulate, tabulate-in}
@@ -23,6 +23,19 @@ rising-le {mem} t i j h l = elim (decLt i j) [
   | yes b ↦ omega (arith, t .rising i j b l)
   | no b ↦ let e : i ≡ j = omega arith in omega (arith, ap (assignmentWord mem) e)
 ]
+
+-- Half of the assignments from lo on, by the last of them.
+module _ {mem : List ℕ} (t : Table mem) (lo half key : ℕ) (some : 1 ≤ half) (inside : lo + half ≤ assignmentCount mem) where
+  last-of-half : word mem (assignmentsFrom + lo + half - 1) ≡ assignmentWord mem (lo + half - 1)
+  last-of-half = let e : assignmentsFrom + lo + half - 1 ≡ assignmentsFrom + (lo + half - 1) = omega arith in ap (word mem) e
+
+  -- it is below the key, and so are all up to it
+  pub half-below : word mem (assignmentsFrom + lo + half - 1) < key → (i : ℕ) → i < lo + half → assignmentWord mem i < key
+  half-below b i h = omega (arith, last-of-half, rising-le t i (lo + half - 1) (omega arith) (omega arith))
+
+  -- it is not, and neither is any from it on
+  pub half-above : key ≤ word mem (assignmentsFrom + lo + half - 1) → (i : ℕ) → lo + half - 1 ≤ i → i < assignmentCount mem → key ≤ assignmentWord mem i
+  half-above b i h l = omega (arith, last-of-half, rising-le t (lo + half - 1) i h l)
 
 -- an assignment of the policy is one of the words
 pub assigned-word : (mem : List ℕ) {x y : ℕ} → Assigned (assignmentsOf mem) x y → AmongFirst mem (assignmentCount mem) x y

@@ -7,10 +7,11 @@ use Prim.Native.Nat.{ℕ, zero, suc, _+_, _*_, _-_, _≤_, _<_}
 use native.Mathlib.Nat.{not-suc-le-zero}
 use native.Mathlib.Omega.{arith}
 use native.Mathlib.Decide.{decLt}
-use borrow.Author.Tests.{not-true, not-false, lt-ltb, ltb-true, eq-eqb, ne-eqb, lt-leb, le-leb}
+use borrow.Author.Tests.{not-true, not-false, lt-ltb, ltb-true, eqb-true, eq-eqb, lt-leb, le-leb}
 use lib.Dec.{eqb, ltb}
 use Rattle.model.proofs.Truth.{and-left, and-right, and-join, same-truth, fails-when, clash}
 use Rattle.table.specs.Layout.{word, assignmentWord, prohibitionStart}
+use Rattle.table.specs.Facts.{Unused}
 use Rattle.table.specs.View.{eachBelow, areRising, areSmall, areZero, isTidy, areTidy, inclusionCount, exclusionCount}
 
 module _ (t : ℕ → Bool) where
@@ -49,25 +50,45 @@ module _ (t : ℕ → Bool) where
   pub each-fails : (n i : ℕ) → i < n → t i ≡ false → false ≡ eachBelow n t
   each-fails n i h f = sym (fails-when (eachBelow n t) (λ e. clash (each-so n e i h) f))
 
--- The first i words from a place on are zero.
-pub record ZeroTo (mem : List ℕ) (from n i : ℕ) : Type 0 where
-  pub inside : i ≤ n
-  pub is : eachBelow i (λ k. eqb (word mem (from + k)) 0) ≡ true
+-- The sum of those of the first k of eight words that are not used: it is 0 exactly if each of them is.
+pub record UnusedTo (mem : List ℕ) (from used sum k : ℕ) : Type 0 where
+  pub inside : k ≤ 8
+  pub small : sum ≤ 4294967295 * k
+  pub says : sum ≡ 0 → (j : ℕ) → used ≤ j → j < k → word mem (from + j) ≡ 0
+  pub when : ((j : ℕ) → used ≤ j → j < k → word mem (from + j) ≡ 0) → sum ≡ 0
 
-pub zero-none : (mem : List ℕ) (from n : ℕ) → ZeroTo mem from n 0
-zero-none mem from n = record { inside = omega arith; is = each-none (λ k. eqb (word mem (from + k)) 0) }
+pub unused-none : (mem : List ℕ) (from used : ℕ) → UnusedTo mem from used 0 0
+unused-none mem from used = record { inside = omega arith; small = omega arith; says = λ e j u l. absurd (omega arith); when = λ h. refl }
 
-module _ {mem : List ℕ} {from n i : ℕ} (z : ZeroTo mem from n i) where
-  pub zero-more : i < n → word mem (from + i) ≤ 0 → ZeroTo mem from n (i + 1)
-  zero-more l h = record { inside = omega arith; is = each-more (λ k. eqb (word mem (from + k)) 0) i (z .is) (eq-eqb (word mem (from + i)) 0 (omega arith)) }
+module _ {mem : List ℕ} {from used sum k : ℕ} (z : UnusedTo mem from used sum k) where
+  pub unused-more : {r : ℕ} → r ≤ 4294967295 → k < 8 → Unused (word mem (from + k)) used k r → UnusedTo mem from used (sum + r) (k + 1)
+  unused-more {r} m l u = record {
+    inside = omega arith;
+    small = omega (arith, z .small);
+    says = λ e j a b. elim (decLt j k) [
+      | yes y ↦ z .says (omega arith) j a y
+      | no y ↦ let q : j ≡ k = omega arith in rw q (omega (arith, u .free (omega arith)))
+    ];
+    when = λ h. omega (arith, z .when (λ j a b. h j a (omega arith)), last h);
+  }
+    where
+      last : ((j : ℕ) → used ≤ j → j < k + 1 → word mem (from + j) ≡ 0) → r ≡ 0
+      last h = elim (decLt k used) [ yes y ↦ u .taken y | no y ↦ u .free (omega arith) ∙ h k (omega arith) (omega arith) ]
 
-  pub zero-fails : i < n → 0 < word mem (from + i) → false ≡ areZero mem from n
+  pub unused-all : used ≤ 8 → 8 ≤ k → eqb sum 0 ≡ areZero mem (from + used) (8 - used)
   unfolding areZero
-  zero-fails l h = each-fails (λ k. eqb (word mem (from + k)) 0) n i l (ne-eqb (word mem (from + i)) 0 (λ e. omega arith))
+  unused-all l h = same-truth (eqb sum 0) (eachBelow (8 - used) (λ j. eqb (word mem (from + used + j)) 0)) all none
+    where
+      all : eqb sum 0 ≡ true → eachBelow (8 - used) (λ j. eqb (word mem (from + used + j)) 0) ≡ true
+      all e = so-each (λ j. eqb (word mem (from + used + j)) 0) (8 - used) (λ j b.
+          let s : from + used + j ≡ from + (used + j) = omega arith in
+          eq-eqb (word mem (from + used + j)) 0 (rw s (z .says (eqb-true sum 0 e) (used + j) (omega arith) (omega arith))))
 
-  pub zero-all : n ≤ i → true ≡ areZero mem from n
-  unfolding areZero
-  zero-all h = each-all (λ k. eqb (word mem (from + k)) 0) n i (z .is) h
+      none : eachBelow (8 - used) (λ j. eqb (word mem (from + used + j)) 0) ≡ true → eqb sum 0 ≡ true
+      none e = eq-eqb sum 0 (z .when (λ j a b.
+          let s : from + j ≡ from + used + (j - used) = omega arith in
+          let d = each-so (λ i. eqb (word mem (from + used + i)) 0) (8 - used) e (j - used) (omega (arith, z .inside)) in
+          ap (word mem) s ∙ eqb-true (word mem (from + used + (j - used))) 0 d))
 
 -- The first i prohibitions are tidy.
 pub record TidyTo (mem : List ℕ) (n i : ℕ) : Type 0 where

@@ -13,6 +13,11 @@ pub record Tidy (mem : List ℕ) (start : ℕ) : Type 0 where
   pub few-exclusions : exclusionCount mem start ≤ 4
   pub rest : (k : ℕ) → inclusionCount mem start + exclusionCount mem start ≤ k → k < 8 → word mem (start + 3 + k) ≡ 0
 
+-- r is the word w where its place k is not used, else 0
+pub record Unused (w used k r : ℕ) : Type 0 where
+  pub taken : k < used → r ≡ 0
+  pub free : used ≤ k → r ≡ w
+
 -- the memory holds a table
 pub record Table (mem : List ℕ) : Type 0 where
   pub size : length mem ≡ wordCount

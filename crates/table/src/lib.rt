@@ -7,7 +7,7 @@ ghost use Rattle.model.specs.Policy.{isElementId, isProcessId, kindOf, isThere,
 ghost use Rattle.table.specs.Layout.{word, assignmentCount, associationCount, prohibitionCount, prohibitionStart};
 ghost use Rattle.table.specs.View.{areRising, areSmall, areZero, areTidy, holdsTable, isTidy, policyOf, inclusionCount, exclusionCount, assignmentAt, associationAt, prohibitionAt};
 ghost use Rattle.table.specs.Answers.{left, newTable};
-ghost use Rattle.table.specs.Facts.{Table, FirstOf, AtMost};
+ghost use Rattle.table.specs.Facts.{Table, Unused, FirstOf, AtMost};
 
 // Where everything stands in the memory: 8,192 words.
 pub const WORDS: usize = 8192;
@@ -130,19 +130,29 @@ pub fn user_of(mem: &[u32], i: u32) -> u32
     u
 }
 
-// Whether n words from `from` on are all zero.
-fn is_zero(mem: &[u32], from: usize, n: usize) -> bool
-    requires { ⌜ from + n ≤ length (now mem) ⌝ }
-    ensures { λ r. ⌜ r ≡ areZero (now (mem .entry)) from n ⌝ }
+// The word where its place k is not used, else 0.
+fn unused(w: u32, used: usize, k: usize) -> u32
+    ensures { λ r. ⌜ Unused w used k r ⌝ }
 {
-    let mut i = 0;
-    while i < n {
-        if 0 < mem[from + i] {
-            return false;
-        }
-        i += 1;
+    if k < used {
+        return 0;
     }
-    true
+    w
+}
+
+// Whether those of the eight words from `from` on that are not used are all zero. No early exit: every call asks it of each prohibition.
+fn is_zero(mem: &[u32], from: usize, used: usize) -> bool
+    requires { ⌜ from + 8 ≤ length (now mem) ⌝ }
+    requires { ⌜ used ≤ 8 ⌝ }
+    ensures { λ r. ⌜ r ≡ areZero (now (mem .entry)) (from + used) (8 - used) ⌝ }
+{
+    let mut sum = 0;
+    let mut k = 0;
+    while k < 8 {
+        sum = sum + unused(mem[from + k], used, k) as u64;
+        k += 1;
+    }
+    sum == 0
 }
 
 // Whether the words of the prohibition that starts at a word are as we write them.
@@ -160,7 +170,7 @@ fn is_tidy(mem: &[u32], start: usize) -> bool
         return false;
     }
     let used = (inclusions + exclusions) as usize;
-    is_zero(mem, start + 3 + used, 8 - used)
+    is_zero(mem, start + 3, used)
 }
 
 // Whether the first n prohibitions are.
@@ -255,13 +265,12 @@ pub fn first_of(mem: &[u32], x: u32) -> usize
 {
     let key = x * 512;
     let mut lo = 0;
-    let mut hi = mem[ASSIGNMENT_COUNTER] as usize;
-    while lo < hi {
-        let mid = lo + (hi - lo) / 2;
-        if mem[ASSIGNMENTS + mid] < key {
-            lo = mid + 1;
-        } else {
-            hi = mid;
+    let mut n = mem[ASSIGNMENT_COUNTER] as usize;
+    while 0 < n {
+        let half = (n + 1) / 2;
+        n -= half;
+        if mem[ASSIGNMENTS + lo + half - 1] < key {
+            lo += half;
         }
     }
     lo

@@ -3,6 +3,7 @@ use borrow.Author.Needs.{needs}
 use Prim.Native.Nat.{ℕ, _<_, _-_}
 use borrow.Fn.Kinds.{In}
 use borrow.Fn.PlainCycle.{Measures, is, falls, and}
+use Rattle.climb.proofs.Queue.{kept-none, kept-then}
 use Rattle.climb.proofs.Steps.{climb-done, head-small, front-next, climb-back}
 use Rattle.climb.proofs.climb.Reads as climb
 use Rattle.climb.proofs.climb.Kinds as climb-kinds
@@ -22,7 +23,7 @@ climb-below t = and 3 climb-kinds.ps (falls 3 climb-kinds.ps _<_ μ-climb t) cli
 
 module _ (t : ℕ) where
   climb-returns : climb-lts.Need-returns (offer-containers-reads.Asked, offer-containers-reads.Learnt, climb-below t, climb.Post) (climb-at t) climb.Post
-  climb-returns c = search climb-done
+  climb-returns c = (search climb-done, kept-none _ _)
 
   climb-mul-offer-containers : climb-lts.Need-mul-offer-containers (offer-containers-reads.Asked, offer-containers-reads.Learnt, climb-below t, climb.Post) (climb-at t) climb.Post
   climb-mul-offer-containers c = omega arith
@@ -41,7 +42,7 @@ module _ (t : ℕ) where
       (omega arith, (search needs, search front-next))
 
   climb-returns-2 : climb-lts.Need-returns-2 (offer-containers-reads.Asked, offer-containers-reads.Learnt, climb-below t, climb.Post) (climb-at t) climb.Post
-  climb-returns-2 c = search climb-back
+  climb-returns-2 c = (search climb-back, search kept-then)
 
 pub +climb-spec : {M : Type 1} → statement M
 +climb-spec = close μ-climb λ t. climb-lts.spec (offer-containers-reads.Asked, offer-containers-reads.Learnt, climb-below t, climb.Post)

@@ -1,4 +1,5 @@
 use Rattle.climb.proofs.Onward.{front-on, climbed-on}
+use Rattle.climb.proofs.Queue.{kept-then}
 use borrow.Author.Needs.{needs}
 use Rattle.climb.proofs.climb_on.Statement.{statement}
 use Rattle.climb.proofs.climb_on.Tie as tie
@@ -14,7 +15,7 @@ climb-requires : tie.Need-climb-requires
 climb-requires c κs = (search needs, search front-on)
 
 returns : tie.Need-returns
-returns c = search climbed-on
+returns c = (search climbed-on, search kept-then)
 
 pub climb-on-spec : {M : Type 1} → statement M
 climb-on-spec = tie.close (tie.spec offer-requires climb-requires returns)

@@ -1,4 +1,4 @@
-use Prim.Native.Nat.{_≤_, _-_}
+use Rattle.decide.proofs.Left.{Left, left-whole, left-near, left-next}
 use borrow.Author.Needs.{needs}
 use Rattle.model.specs.Policy.{hasRight}
 use Rattle.grants.proofs.Counted.{CountedBelow, rights-start, rights-more, rights-end}
@@ -11,16 +11,16 @@ use Rattle.grants.proofs.one_if.Reads as one-if-reads
 use Rattle.rule.proofs.has_right.Reads as has-right-reads
 
 abbrev Inv-loop : tie.InvT-loop
-Inv-loop rights n₀ r₀ n r = (r ≤ 32) × CountedBelow (hasRight rights) 0 r n
+Inv-loop rights n₀ left₀ r₀ n left r = Left rights r left × CountedBelow (hasRight rights) 0 r n
 
 abbrev μ-loop : tie.MeasureT-loop
-μ-loop rights n₀ r₀ n r = 32 - r
+μ-loop rights n₀ left₀ r₀ n left r = left
 
 loop-holds : tie.Need-loop-holds Inv-loop μ-loop
-loop-holds c = (omega arith, search rights-start)
+loop-holds c = (left-whole (omega arith), search rights-start)
 
 has-right-requires : tie.Need-has-right-requires Inv-loop μ-loop
-has-right-requires c κs = omega arith
+has-right-requires c κs = search left-near
 
 one-if-requires : tie.Need-one-if-requires Inv-loop μ-loop
 one-if-requires c κs = search needs
@@ -35,7 +35,7 @@ loop-less : tie.Need-loop-less Inv-loop μ-loop
 loop-less c = omega arith
 
 loop-again : tie.Need-loop-again Inv-loop μ-loop
-loop-again c = (omega arith, search rights-more)
+loop-again c = (search left-next, search rights-more)
 
 returns : tie.Need-returns Inv-loop μ-loop
 returns c = search rights-end

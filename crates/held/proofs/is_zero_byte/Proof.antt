@@ -1,12 +1,9 @@
-use Rattle.held.proofs.Passing.{zero-far, zero-past, zero-read}
+use Rattle.held.proofs.Passing.{zero-past, zero-read}
 use borrow.Author.Needs.{needs}
 use Rattle.held.proofs.is_zero_byte.Statement.{statement}
 use Rattle.held.proofs.is_zero_byte.Tie as tie
 use Rattle.held.proofs.is_zero_byte.Reads as reads
 use Rattle.held.proofs.is_zero_byte.Lts as lts
-
-returns : tie.Need-returns
-returns c = search zero-far
 
 mul-place : tie.Need-mul-place
 mul-place c = search needs
@@ -17,16 +14,16 @@ cast-place c = search needs
 add-place : tie.Need-add-place
 add-place c = search needs
 
-returns-2 : tie.Need-returns-2
-returns-2 c = search zero-past
+returns : tie.Need-returns
+returns c = search zero-past
 
 shared-slice-read-result : tie.Need-shared-slice-read-result
 shared-slice-read-result c = search needs
 
-returns-3 : tie.Need-returns-3
-returns-3 c = search zero-read
+returns-2 : tie.Need-returns-2
+returns-2 c = search zero-read
 
 pub is-zero-byte-spec : {M : Type 1} → statement M
 is-zero-byte-spec =
     tie.close
-    (tie.spec returns mul-place cast-place add-place returns-2 shared-slice-read-result returns-3)
+    (tie.spec mul-place cast-place add-place returns shared-slice-read-result returns-2)

@@ -1,15 +1,14 @@
 use Prim.Native.Nat.{_-_}
 use borrow.Author.Needs.{needs}
-use Rattle.held.proofs.Turns.{FarBits, AtBits, bit-start, bit-on, bit-class, bit-end, bit-more, bit-given, bit-lacks}
+use Rattle.held.proofs.Turns.{FarBits, AtBits, bit-start, bit-class, bit-end, bit-more, bit-given, bit-lacks}
 use native.Mathlib.Omega.{arith}
 use Rattle.held.proofs.lack_by_index.Statement.{statement}
 use Rattle.held.proofs.lack_by_index.Tie as tie
 use Rattle.held.proofs.lack_by_index.Reads as reads
 use Rattle.held.proofs.lack_by_index.Lts as lts
 use Rattle.held.proofs.give_by_index.Reads as give-by-index-reads
+use Rattle.held.proofs.next_class.Reads as next-class-reads
 use Rattle.index.proofs.bit.Reads as bit-reads
-use Rattle.held.proofs.next_id.Reads as next-id-reads
-use Rattle.rule.proofs.is_class_of.Reads as is-class-of-reads
 use Rattle.table.proofs.association_count.Reads as association-count-reads
 
 abbrev Inv-loop : tie.InvT-loop
@@ -28,23 +27,14 @@ association-count-requires :
     tie.Need-association-count-requires Inv-loop μ-loop Inv-classes μ-classes
 association-count-requires c κs = search needs
 
+next-class-requires : tie.Need-next-class-requires Inv-loop μ-loop Inv-classes μ-classes
+next-class-requires c κs = (search needs, omega arith)
+
 classes-holds : tie.Need-classes-holds Inv-loop μ-loop Inv-classes μ-classes
 classes-holds c = search bit-start
 
-is-class-of-requires : tie.Need-is-class-of-requires Inv-loop μ-loop Inv-classes μ-classes
-is-class-of-requires c κs = search needs
-
-next-id-requires : tie.Need-next-id-requires Inv-loop μ-loop Inv-classes μ-classes
-next-id-requires c κs = omega arith
-
-classes-less : tie.Need-classes-less Inv-loop μ-loop Inv-classes μ-classes
-classes-less c = omega arith
-
-classes-again : tie.Need-classes-again Inv-loop μ-loop Inv-classes μ-classes
-classes-again c = search bit-on
-
 loop-holds : tie.Need-loop-holds Inv-loop μ-loop Inv-classes μ-classes
-loop-holds c = search (bit-class, c .if1 .left, c .before .is-class-of .ensures, c .before .before .classes-test .taken, c .before .before .before .classes .inv)
+loop-holds c = search bit-class
 
 slice-aggregate-bit : tie.Need-slice-aggregate-bit Inv-loop μ-loop Inv-classes μ-classes
 slice-aggregate-bit c = omega arith
@@ -68,14 +58,17 @@ loop-less c = omega arith
 loop-again : tie.Need-loop-again Inv-loop μ-loop Inv-classes μ-classes
 loop-again c = search bit-more
 
-add-c : tie.Need-add-c Inv-loop μ-loop Inv-classes μ-classes
-add-c c = omega arith
+add-next-class : tie.Need-add-next-class Inv-loop μ-loop Inv-classes μ-classes
+add-next-class c = omega arith
 
-classes-less-2 : tie.Need-classes-less-2 Inv-loop μ-loop Inv-classes μ-classes
-classes-less-2 c = omega arith
+next-class-requires-2 : tie.Need-next-class-requires-2 Inv-loop μ-loop Inv-classes μ-classes
+next-class-requires-2 c κs = (search needs, omega arith)
 
-classes-again-2 : tie.Need-classes-again-2 Inv-loop μ-loop Inv-classes μ-classes
-classes-again-2 c = search (bit-given, c .if2 .left, c .before .bit .ensures, c .before .before .before .loop .inv)
+classes-less : tie.Need-classes-less Inv-loop μ-loop Inv-classes μ-classes
+classes-less c = omega arith
+
+classes-again : tie.Need-classes-again Inv-loop μ-loop Inv-classes μ-classes
+classes-again c = search (bit-given, c .next-class2 .ensures, c .before .if1 .left, c .before .before .bit .ensures, c .before .before .before .before .loop .inv)
 
 returns : tie.Need-returns Inv-loop μ-loop Inv-classes μ-classes
 returns c = search bit-end
@@ -92,11 +85,8 @@ lack-by-index-spec =
     Inv-classes
     μ-classes
     association-count-requires
+    next-class-requires
     classes-holds
-    is-class-of-requires
-    next-id-requires
-    classes-less
-    classes-again
     loop-holds
     slice-aggregate-bit
     bit-requires
@@ -105,8 +95,9 @@ lack-by-index-spec =
     add-i
     loop-less
     loop-again
-    add-c
-    classes-less-2
-    classes-again-2
+    add-next-class
+    next-class-requires-2
+    classes-less
+    classes-again
     returns
     returns-2)

@@ -1,4 +1,4 @@
-use Rattle.lowest.proofs.Rising.{few-names, first-none, first-kept, first-taken}
+use Rattle.lowest.proofs.Rising.{queued-classes, first-none, first-kept, first-taken}
 use native.Mathlib.Omega.{arith}
 use borrow.Author.Needs.{needs}
 use Rattle.lowest.proofs.name_first.Statement.{statement}
@@ -6,7 +6,7 @@ use Rattle.lowest.proofs.name_first.Tie as tie
 use Rattle.lowest.proofs.name_first.Reads as reads
 use Rattle.lowest.proofs.name_first.Lts as lts
 use Rattle.climb.proofs.climb_on.Reads as climb-on-reads
-use Rattle.lowest.proofs.name_marked.Reads as name-marked-reads
+use Rattle.lowest.proofs.name_queued.Reads as name-queued-reads
 use Rattle.rule.proofs.is_offered.Reads as is-offered-reads
 use Rattle.table.proofs.target_at.Reads as target-at-reads
 
@@ -31,8 +31,8 @@ returns-2 c = search first-kept
 climb-on-requires : tie.Need-climb-on-requires
 climb-on-requires c κs = (search needs, (omega arith, search needs))
 
-name-marked-requires : tie.Need-name-marked-requires
-name-marked-requires c κs = (omega arith, (omega arith, search few-names))
+name-queued-requires : tie.Need-name-queued-requires
+name-queued-requires c κs = (search queued-classes, (search needs, (omega arith, omega arith)))
 
 returns-3 : tie.Need-returns-3
 returns-3 c = search first-taken
@@ -48,5 +48,5 @@ name-first-spec =
     element-copy-out-if2
     returns-2
     climb-on-requires
-    name-marked-requires
+    name-queued-requires
     returns-3)

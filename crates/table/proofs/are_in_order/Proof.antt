@@ -6,35 +6,27 @@ use Rattle.table.proofs.are_in_order.Reads as reads
 use Rattle.table.proofs.are_in_order.Lts as lts
 use Rattle.table.proofs.are_rising.Reads as are-rising-reads
 
--- src/lib.rt:186:9
 returns : tie.Need-returns
 returns c = search order-none
 
--- src/lib.rt:188:9
 are-rising-requires : tie.Need-are-rising-requires
 are-rising-requires c κs = search needs
 
--- src/lib.rt:189:9
 returns-2 : tie.Need-returns-2
 returns-2 c = search order-falls
 
--- src/lib.rt:191:9
 add-result : tie.Need-add-result
 add-result c = search needs
 
--- src/lib.rt:191:9
 sub-result : tie.Need-sub-result
 sub-result c = search needs
 
--- src/lib.rt:191:5
 mul-result : tie.Need-mul-result
 mul-result c = search needs
 
--- src/lib.rt:191:5
 shared-slice-read-result : tie.Need-shared-slice-read-result
 shared-slice-read-result c = search needs
 
--- src/lib.rt:180:1
 returns-3 : tie.Need-returns-3
 returns-3 c = search order-last
 

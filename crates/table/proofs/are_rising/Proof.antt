@@ -12,51 +12,39 @@ Inv-loop mem n up₀ i₀ up i = RiseTo mem n up i
 abbrev μ-loop : tie.MeasureT-loop
 μ-loop mem n up₀ i₀ up i = n - i
 
--- src/lib.rt:172:5
 loop-holds : tie.Need-loop-holds Inv-loop μ-loop
 loop-holds c = rise-none _ _ (omega arith)
 
--- src/lib.rt:173:24
 add-up : tie.Need-add-up Inv-loop μ-loop
 add-up c = omega arith
 
--- src/lib.rt:173:24
 sub-up : tie.Need-sub-up Inv-loop μ-loop
 sub-up c = omega arith
 
--- src/lib.rt:173:20
 mul-up : tie.Need-mul-up Inv-loop μ-loop
 mul-up c = omega arith
 
--- src/lib.rt:173:20
 shared-slice-read-up : tie.Need-shared-slice-read-up Inv-loop μ-loop
 shared-slice-read-up c = omega arith
 
--- src/lib.rt:173:51
 add-up-2 : tie.Need-add-up-2 Inv-loop μ-loop
 add-up-2 c = omega arith
 
--- src/lib.rt:173:47
 mul-up-2 : tie.Need-mul-up-2 Inv-loop μ-loop
 mul-up-2 c = omega arith
 
--- src/lib.rt:173:47
 shared-slice-read-up-2 : tie.Need-shared-slice-read-up-2 Inv-loop μ-loop
 shared-slice-read-up-2 c = omega arith
 
--- src/lib.rt:174:9
 add-i : tie.Need-add-i Inv-loop μ-loop
 add-i c = omega arith
 
--- src/lib.rt:172:5
 loop-less : tie.Need-loop-less Inv-loop μ-loop
 loop-less c = omega arith
 
--- src/lib.rt:172:5
 loop-again : tie.Need-loop-again Inv-loop μ-loop
 loop-again c = search rise-more
 
--- src/lib.rt:164:1
 returns : tie.Need-returns Inv-loop μ-loop
 returns c = search rise-all
 

@@ -13,39 +13,30 @@ Inv-loop mem n i₀ i = TidyTo mem n i
 abbrev μ-loop : tie.MeasureT-loop
 μ-loop mem n i₀ i = n - i
 
--- src/lib.rt:96:5
 loop-holds : tie.Need-loop-holds Inv-loop μ-loop
 loop-holds c = tidy-none _ _
 
--- src/lib.rt:97:33
 mul-is-tidy : tie.Need-mul-is-tidy Inv-loop μ-loop
 mul-is-tidy c = omega arith
 
--- src/lib.rt:97:26
 add-is-tidy : tie.Need-add-is-tidy Inv-loop μ-loop
 add-is-tidy c = omega arith
 
--- src/lib.rt:97:13
 is-tidy-requires : tie.Need-is-tidy-requires Inv-loop μ-loop
 is-tidy-requires c κs = omega arith
 
--- src/lib.rt:98:13
 returns : tie.Need-returns Inv-loop μ-loop
 returns c = search tidy-fails
 
--- src/lib.rt:100:9
 add-i : tie.Need-add-i Inv-loop μ-loop
 add-i c = omega arith
 
--- src/lib.rt:96:5
 loop-less : tie.Need-loop-less Inv-loop μ-loop
 loop-less c = omega arith
 
--- src/lib.rt:96:5
 loop-again : tie.Need-loop-again Inv-loop μ-loop
 loop-again c = search tidy-more
 
--- src/lib.rt:90:1
 returns-2 : tie.Need-returns-2 Inv-loop μ-loop
 returns-2 c = search tidy-all
 

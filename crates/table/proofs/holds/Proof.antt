@@ -7,71 +7,54 @@ use Rattle.table.proofs.holds.Lts as lts
 use Rattle.table.proofs.are_in_order.Reads as are-in-order-reads
 use Rattle.table.proofs.are_tidy.Reads as are-tidy-reads
 
--- src/lib.rt:140:9
 returns : tie.Need-returns
 returns c = search other-length
 
--- src/lib.rt:142:8
 shared-slice-read-if2 : tie.Need-shared-slice-read-if2
 shared-slice-read-if2 c = search needs
 
--- src/lib.rt:143:9
 returns-2 : tie.Need-returns-2
 returns-2 c = search other-mark
 
--- src/lib.rt:145:15
 shared-slice-read-if3 : tie.Need-shared-slice-read-if3
 shared-slice-read-if3 c = search needs
 
--- src/lib.rt:146:9
 returns-3 : tie.Need-returns-3
 returns-3 c = search many-assignments
 
--- src/lib.rt:148:15
 shared-slice-read-if4 : tie.Need-shared-slice-read-if4
 shared-slice-read-if4 c = search needs
 
--- src/lib.rt:149:9
 returns-4 : tie.Need-returns-4
 returns-4 c = search many-associations
 
--- src/lib.rt:151:14
 shared-slice-read-if5 : tie.Need-shared-slice-read-if5
 shared-slice-read-if5 c = search needs
 
--- src/lib.rt:152:9
 returns-5 : tie.Need-returns-5
 returns-5 c = search many-prohibitions
 
--- src/lib.rt:154:27
 shared-slice-read-are-in-order : tie.Need-shared-slice-read-are-in-order
 shared-slice-read-are-in-order c = search needs
 
--- src/lib.rt:154:27
 cast-are-in-order : tie.Need-cast-are-in-order
 cast-are-in-order c = search needs
 
--- src/lib.rt:154:9
 are-in-order-requires : tie.Need-are-in-order-requires
 are-in-order-requires c κs = search needs
 
--- src/lib.rt:155:9
 returns-6 : tie.Need-returns-6
 returns-6 c = search out-of-order
 
--- src/lib.rt:157:19
 shared-slice-read-are-tidy : tie.Need-shared-slice-read-are-tidy
 shared-slice-read-are-tidy c = search needs
 
--- src/lib.rt:157:19
 cast-are-tidy : tie.Need-cast-are-tidy
 cast-are-tidy c = search needs
 
--- src/lib.rt:157:5
 are-tidy-requires : tie.Need-are-tidy-requires
 are-tidy-requires c κs = search needs
 
--- src/lib.rt:136:1
 returns-7 : tie.Need-returns-7
 returns-7 c = search tidy-decides
 

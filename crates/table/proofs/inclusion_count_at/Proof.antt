@@ -5,31 +5,24 @@ use Rattle.table.proofs.inclusion_count_at.Tie as tie
 use Rattle.table.proofs.inclusion_count_at.Reads as reads
 use Rattle.table.proofs.inclusion_count_at.Lts as lts
 
--- src/lib.rt:314:17
 mul-result : tie.Need-mul-result
 mul-result c = search needs
 
--- src/lib.rt:314:10
 add-result : tie.Need-add-result
 add-result c = search needs
 
--- src/lib.rt:314:10
 add-result-2 : tie.Need-add-result-2
 add-result-2 c = search needs
 
--- src/lib.rt:314:6
 mul-result-2 : tie.Need-mul-result-2
 mul-result-2 c = search needs
 
--- src/lib.rt:314:6
 shared-slice-read-result : tie.Need-shared-slice-read-result
 shared-slice-read-result c = search needs
 
--- src/lib.rt:314:5
 cast-result : tie.Need-cast-result
 cast-result c = search needs
 
--- src/lib.rt:309:1
 returns : tie.Need-returns
 returns c = search inclusions-few
 

@@ -14,59 +14,45 @@ Inv-loop mem x y key end i₀ i = NotAmong mem i x y
 abbrev μ-loop : tie.MeasureT-loop
 μ-loop mem x y key end i₀ i = end - i
 
--- src/lib.rt:249:15
 mul-key : tie.Need-mul-key Inv-loop μ-loop
 mul-key c = omega arith
 
--- src/lib.rt:249:15
 add-key : tie.Need-add-key Inv-loop μ-loop
 add-key c = omega arith
 
--- src/lib.rt:250:29
 add-first-of : tie.Need-add-first-of Inv-loop μ-loop
 add-first-of c = omega arith
 
--- src/lib.rt:250:9
 first-of-requires : tie.Need-first-of-requires Inv-loop μ-loop
 first-of-requires c κs = search needs
 
--- src/lib.rt:251:9
 first-of-requires-2 : tie.Need-first-of-requires-2 Inv-loop μ-loop
 first-of-requires-2 c κs = search needs
 
--- src/lib.rt:252:5
 loop-holds : tie.Need-loop-holds Inv-loop μ-loop
 loop-holds c = search among-none
 
--- src/lib.rt:253:16
 add-if1 : tie.Need-add-if1 Inv-loop μ-loop
 add-if1 c = omega arith
 
--- src/lib.rt:253:12
 mul-if1 : tie.Need-mul-if1 Inv-loop μ-loop
 mul-if1 c = omega arith
 
--- src/lib.rt:253:12
 shared-slice-read-if1 : tie.Need-shared-slice-read-if1 Inv-loop μ-loop
 shared-slice-read-if1 c = omega arith
 
--- src/lib.rt:254:13
 returns : tie.Need-returns Inv-loop μ-loop
 returns c = search assigned-here
 
--- src/lib.rt:256:9
 add-i : tie.Need-add-i Inv-loop μ-loop
 add-i c = omega arith
 
--- src/lib.rt:252:5
 loop-less : tie.Need-loop-less Inv-loop μ-loop
 loop-less c = omega arith
 
--- src/lib.rt:252:5
 loop-again : tie.Need-loop-again Inv-loop μ-loop
 loop-again c = search among-more
 
--- src/lib.rt:243:1
 returns-2 : tie.Need-returns-2 Inv-loop μ-loop
 returns-2 c = search assigned-nowhere
 

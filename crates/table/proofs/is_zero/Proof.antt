@@ -1,52 +1,51 @@
 use native.Mathlib.Omega.{arith}
-use Rattle.table.proofs.Checks.{ZeroTo, zero-none, zero-more, zero-fails, zero-all}
 use Prim.Native.Nat.{_-_}
+use borrow.Author.Needs.{needs}
+use Rattle.table.proofs.Checks.{UnusedTo, unused-none, unused-more, unused-all}
 use Rattle.table.proofs.is_zero.Statement.{statement}
 use Rattle.table.proofs.is_zero.Tie as tie
 use Rattle.table.proofs.is_zero.Reads as reads
 use Rattle.table.proofs.is_zero.Lts as lts
+use Rattle.table.proofs.unused.Reads as unused-reads
 
 abbrev Inv-loop : tie.InvT-loop
-Inv-loop mem from n i₀ i = ZeroTo mem from n i
+Inv-loop mem from used sum₀ k₀ sum k = UnusedTo mem from used sum k
 
 abbrev μ-loop : tie.MeasureT-loop
-μ-loop mem from n i₀ i = n - i
+μ-loop mem from used sum₀ k₀ sum k = 8 - k
 
--- src/lib.rt:62:5
 loop-holds : tie.Need-loop-holds Inv-loop μ-loop
-loop-holds c = zero-none _ _ _
+loop-holds c = unused-none _ _ _
 
--- src/lib.rt:63:16
-add-if1 : tie.Need-add-if1 Inv-loop μ-loop
-add-if1 c = omega arith
+add-unused : tie.Need-add-unused Inv-loop μ-loop
+add-unused c = omega arith
 
--- src/lib.rt:63:12
-mul-if1 : tie.Need-mul-if1 Inv-loop μ-loop
-mul-if1 c = omega arith
+mul-unused : tie.Need-mul-unused Inv-loop μ-loop
+mul-unused c = omega arith
 
--- src/lib.rt:63:12
-shared-slice-read-if1 : tie.Need-shared-slice-read-if1 Inv-loop μ-loop
-shared-slice-read-if1 c = omega arith
+shared-slice-read-unused : tie.Need-shared-slice-read-unused Inv-loop μ-loop
+shared-slice-read-unused c = omega arith
 
--- src/lib.rt:64:13
-returns : tie.Need-returns Inv-loop μ-loop
-returns c = search zero-fails
+unused-requires : tie.Need-unused-requires Inv-loop μ-loop
+unused-requires c κs = search needs
 
--- src/lib.rt:66:9
-add-i : tie.Need-add-i Inv-loop μ-loop
-add-i c = omega arith
+cast-sum : tie.Need-cast-sum Inv-loop μ-loop
+cast-sum c = omega arith
 
--- src/lib.rt:62:5
+add-sum : tie.Need-add-sum Inv-loop μ-loop
+add-sum c = omega arith
+
+add-k : tie.Need-add-k Inv-loop μ-loop
+add-k c = omega arith
+
 loop-less : tie.Need-loop-less Inv-loop μ-loop
 loop-less c = omega arith
 
--- src/lib.rt:62:5
 loop-again : tie.Need-loop-again Inv-loop μ-loop
-loop-again c = search zero-more
+loop-again c = unused-more (c .before .before .before .loop .inv) (omega arith) (omega arith) (c .unused .ensures)
 
--- src/lib.rt:57:1
-returns-2 : tie.Need-returns-2 Inv-loop μ-loop
-returns-2 c = search zero-all
+returns : tie.Need-returns Inv-loop μ-loop
+returns c = search unused-all
 
 pub is-zero-spec : {M : Type 1} → statement M
 is-zero-spec =
@@ -55,11 +54,13 @@ is-zero-spec =
     Inv-loop
     μ-loop
     loop-holds
-    add-if1
-    mul-if1
-    shared-slice-read-if1
-    returns
-    add-i
+    add-unused
+    mul-unused
+    shared-slice-read-unused
+    unused-requires
+    cast-sum
+    add-sum
+    add-k
     loop-less
     loop-again
-    returns-2)
+    returns)

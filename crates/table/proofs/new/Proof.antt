@@ -6,23 +6,18 @@ use Rattle.table.proofs.new.Reads as reads
 use Rattle.table.proofs.new.Lts as lts
 use Rattle.group.proofs.clear.Reads as clear-reads
 
--- src/lib.rt:203:9
 returns : tie.Need-returns
 returns c = search new-refused
 
--- src/lib.rt:205:5
 clear-requires : tie.Need-clear-requires
 clear-requires c κs = search needs
 
--- src/lib.rt:206:5
 slice-write-mem : tie.Need-slice-write-mem
 slice-write-mem c = search needs
 
--- src/lib.rt:199:1
 same-length : tie.Need-same-length
 same-length c = search needs
 
--- src/lib.rt:199:1
 returns-2 : tie.Need-returns-2
 returns-2 c = search new-done
 

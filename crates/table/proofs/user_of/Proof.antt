@@ -6,31 +6,24 @@ use Rattle.table.proofs.user_of.Tie as tie
 use Rattle.table.proofs.user_of.Reads as reads
 use Rattle.table.proofs.user_of.Lts as lts
 
--- src/lib.rt:37:9
 returns : tie.Need-returns
 returns c = search (user-outside, inl, inr)
 
--- src/lib.rt:40:9
 returns-2 : tie.Need-returns-2
 returns-2 c = search (user-outside, inl, inr)
 
--- src/lib.rt:42:17
 add-u : tie.Need-add-u
 add-u c = search needs
 
--- src/lib.rt:42:13
 mul-u : tie.Need-mul-u
 mul-u c = search needs
 
--- src/lib.rt:42:13
 shared-slice-read-u : tie.Need-shared-slice-read-u
 shared-slice-read-u c = search needs
 
--- src/lib.rt:44:9
 returns-3 : tie.Need-returns-3
 returns-3 c = search user-above
 
--- src/lib.rt:32:1
 returns-4 : tie.Need-returns-4
 returns-4 c = search user-is
 
