@@ -14,7 +14,7 @@
  *   - words and rows are aligned to 4 bytes. A pointer with the number 0 may be any pointer that is not null.
  *
  * A call needs up to 150 KiB of stack: load of a chain through all 511 elements (it judges a table and an index of its own before it writes, and
- * walks the chain by recursion). A decision needs 32 KiB, one from the index 4 KiB.
+ * walks the chain by recursion). A decision needs 40 KiB, one from the index 4 KiB.
  */
 #ifndef QUANDRILOF_H
 #define QUANDRILOF_H

@@ -12,7 +12,7 @@
 //!
 //! A call takes no memory but what is lent to it and the stack: load up to 150 KiB of it, where a chain of assignments leads through
 //! all elements; the question whether an index is the table's up to 116 KiB; the commands and the building of an index up to 86 KiB;
-//! the plain decision, the explanation and containment up to 32 KiB; the decision from the index 4 KiB.
+//! the plain decision, the explanation and containment up to 40 KiB; the decision from the index 4 KiB.
 //!
 //! ```
 //! use quandrilof::{form, operation, right, sort, Decision, Prohibition, Refusal, Request, Table};

@@ -8,7 +8,6 @@
 //! Refusal 1 speaks of working memory; this program has none, so only `leaves`, `decisions`, `histories` and `images` give it, where a
 //! script says so: `words` reads memory as the project's pages publish it.
 
-pub mod bench;
 pub mod command;
 pub mod decide;
 pub mod decisions;
@@ -29,7 +28,6 @@ pub mod script;
 pub mod words;
 pub mod year;
 
-pub use bench::bench_script;
 pub use command::{Command, Machine};
 pub use decide::{decide, decide_indexed, Answer};
 pub use decisions::decisions;

@@ -72,17 +72,3 @@ fn small_scripts() {
     assert_eq!(after(&[step(b'W', 2_776, 0, 514 * 512 + 4), both.clone()]), "D\nD\n");
     assert_eq!(after(&[step(b'W', 2_776, 0, 514 * 512 + 4), step(b'T', 4, 2, 1), both]), "D\nG 1\n");
 }
-
-/// Each table of the bench has a request that is granted and one that is denied.
-#[test]
-fn bench_scripts() {
-    for table in second::bench::TABLES {
-        for (granted, answer) in [(true, "G 1\n"), (false, "D\n")] {
-            for by_index in [false, true] {
-                let script = second::bench_script(table, granted, by_index, 2).expect(table);
-                assert_eq!(second::decisions(&script), answer, "{table}");
-            }
-        }
-    }
-    assert!(second::bench_script("none", true, true, 1).is_none());
-}

@@ -154,3 +154,13 @@ fn the_program() {
     let house = String::from_utf8(run(env!("CARGO_BIN_EXE_second-run"), &["house"], &[])).unwrap();
     assert!(house.starts_with("K1 ") && !house.contains("DIFFERS"));
 }
+
+/// What is stored for the program `desk_main` is the script and what is printed for it.
+#[test]
+fn stored() {
+    let script = second::desk_script();
+    assert!(script == include_bytes!("../../crates/desk_main/stdin"));
+    assert!(desk(&script) == include_bytes!("../../crates/desk_main/stdout"));
+    assert!(second::house_image() == include_bytes!("../../examples/small_house.image"));
+    assert!(second::house_example() == include_bytes!("../../examples/small_house.desk"));
+}

@@ -1,12 +1,11 @@
-//! Prints what the second program answers: `desk` as the desk program does, `house` the cases K1 to K12,
-//! `desk-script` the input that is stored for the program `desk_main`, `desk-runs` many inputs and what is printed for each,
-//! `house-image` and `house-example` the stored examples,
-//! `leaves` as the program `try_leaves` does, `leaves-script` the script that is stored for it; `decisions`
-//! and `decisions-script` are those of the program `try_decide`, `histories` and `histories-script` those of
-//! `try_command`, `images` and `images-script` those of `try_image`, and `bench-script` makes a script that
-//! asks one request many times. `damaged-script` makes a script for `try_image` of 1,000 images and, from a
-//! seed, so many damaged images of them: what `images` and the program answer to it can be compared in a long
-//! run by hand.
+//! Prints what the second program answers: `desk` as the desk program does, `house` the cases K1 to K12.
+//! `desk-script` is the input that is stored for the program `desk_main`, `desk-runs` many inputs and what is
+//! printed for each; `house-image` and `house-example` are the stored examples. `leaves` answers as the
+//! program `try_leaves` does, `leaves-script` is the script that is stored for it; `decisions` and
+//! `decisions-script` are those of the program `try_decide`, `histories` and `histories-script` those of
+//! `try_command`, `images` and `images-script` those of `try_image`. `damaged-script` makes a script for
+//! `try_image` of 1,000 images and, from a seed, so many damaged images of them: what `images` and the program
+//! answer to it can be compared in a long run by hand.
 
 use std::io::{self, Read, Write};
 use std::process::ExitCode;
@@ -29,13 +28,11 @@ fn main() -> ExitCode {
         ["images"] => answer(second::images),
         ["images-script"] => print(&second::images_script()),
         ["damaged-script", count, seed] => damaged_script(count, seed),
-        ["bench-script", table, answer, way, times] => bench_script(table, answer, way, times),
         _ => {
             eprintln!("usage: second-run desk < input | desk-script | desk-runs | house | house-image");
             eprintln!("       | house-example | leaves < script | leaves-script | decisions < script");
             eprintln!("       | decisions-script | histories < script | histories-script | images < script");
             eprintln!("       | images-script | damaged-script COUNT SEED");
-            eprintln!("       | bench-script TABLE granted|denied plain|indexed TIMES");
             return ExitCode::from(2);
         }
     };
@@ -78,12 +75,6 @@ fn number(given: &str) -> io::Result<u32> {
 
 fn damaged_script(count: &str, seed: &str) -> io::Result<bool> {
     print(&second::damaged_script(number(count)?, number(seed)?.into()))
-}
-
-fn bench_script(table: &str, answer: &str, way: &str, times: &str) -> io::Result<bool> {
-    let times = number(times)?;
-    let script = second::bench_script(table, answer == "granted", way == "indexed", times);
-    print(&script.ok_or_else(|| wrong(format!("{table} is none of {:?}", second::bench::TABLES)))?)
 }
 
 fn house() -> io::Result<bool> {
