@@ -3,19 +3,24 @@
 #include <stdio.h>
 
 static uint32_t table[QD_TABLE_WORDS];
-static uint8_t index_[QD_INDEX_BYTES], image[QD_IMAGE_MOST];
+static uint8_t index_[QD_INDEX_BYTES], image[QD_IMAGE_MOST + 1]; /* a longer file is refused, not cut */
 
 /* Process 2 is user 6's. */
 static void ask(void)
 {
     uint32_t answer = qd_decide_indexed(table, QD_TABLE_WORDS, index_, QD_INDEX_BYTES, 2, QD_READ, 511, 0, 0);
-    printf("process 2 reads 511: %s\n", answer == 0 ? "denied" : answer < 16 ? "granted" : "refused");
+    int granted = answer == 1 || answer == 2;
+    printf("process 2 reads 511: %s\n", granted ? "granted" : answer > QD_REFUSED ? "refused" : "denied");
 }
 
 int main(int count, char **words)
 {
     FILE *file = count == 2 ? fopen(words[1], "rb") : NULL;
-    size_t length = file ? fread(image, 1, sizeof image, file) : 0;
+    if (file == NULL) {
+        puts("no image file");
+        return 1;
+    }
+    size_t length = fread(image, 1, sizeof image, file);
     uint32_t refusal = qd_load(table, QD_TABLE_WORDS, image, length);
     if (refusal == 0)
         refusal = qd_build_index(table, QD_TABLE_WORDS, index_, QD_INDEX_BYTES);
@@ -29,6 +34,11 @@ int main(int count, char **words)
     ask();
     refusal = qd_deassign(table, QD_TABLE_WORDS, index_, QD_INDEX_BYTES, 9, 7);
     printf("deassign 9 from 7: %u\n", refusal);
-    printf("saved: %u bytes\n", (uint32_t)qd_save(table, QD_TABLE_WORDS, image, sizeof image));
+    uint64_t saved = qd_save(table, QD_TABLE_WORDS, image, sizeof image);
+    if (saved >> 32) {
+        printf("refused with %u\n", (uint32_t)(saved >> 32));
+        return 1;
+    }
+    printf("saved: %u bytes\n", (uint32_t)saved);
     return 0;
 }

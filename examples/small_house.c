@@ -3,21 +3,21 @@
 #include <stdio.h>
 
 static uint32_t table[QD_TABLE_WORDS];
-static uint8_t image[QD_IMAGE_MOST];
+static uint8_t image[QD_IMAGE_MOST + 1]; /* a longer file is refused, not cut */
 static struct qd_row rows[QD_ROWS_MOST];
 
 static void ask(const char *name, uint32_t process, uint32_t object)
 {
     uint64_t told = qd_explain(table, QD_TABLE_WORDS, process, QD_READ, object, 0, 0, rows, QD_ROWS_MOST);
     uint32_t answer = told >> 32, count = (uint32_t)told;
-    if (answer > 16) {
-        printf("%s: process %u reads %u: refused with %u\n", name, process, object, answer - 16);
+    int granted = answer == 1 || answer == 2;
+    if (answer > QD_REFUSED) {
+        printf("%s: process %u reads %u: refused with %u\n", name, process, object, answer - QD_REFUSED);
         return;
     }
-    printf("%s: process %u reads %u: %s\n", name, process, object, answer ? "granted" : "denied");
-    for (uint32_t i = 0; i < count; i++) {
-        const struct qd_row *row = &rows[i];
-        if (answer)
+    printf("%s: process %u reads %u: %s\n", name, process, object, granted ? "granted" : "denied");
+    for (const struct qd_row *row = rows; row < rows + count; row++) {
+        if (granted)
             printf("  right %u in class %u, by the association of %u with %u\n", row->right, row->number, row->attribute, row->target);
         else if (row->cause == 1)
             printf("  right %u of argument %u is not held: class %u lacks it\n", row->right, row->argument, row->number);
@@ -29,7 +29,11 @@ static void ask(const char *name, uint32_t process, uint32_t object)
 int main(int count, char **words)
 {
     FILE *file = count == 2 ? fopen(words[1], "rb") : NULL;
-    size_t length = file ? fread(image, 1, sizeof image, file) : 0;
+    if (file == NULL) {
+        puts("no image file");
+        return 1;
+    }
+    size_t length = fread(image, 1, sizeof image, file);
     uint32_t refusal = qd_load(table, QD_TABLE_WORDS, image, length);
     if (refusal) {
         printf("refused with %u\n", refusal);

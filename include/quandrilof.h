@@ -10,11 +10,10 @@
  *
  * What the proofs assume of a C caller, and nothing checks:
  *   - a pointer and the number behind it are true: so many words, bytes or rows are there, and may be read (or written, where not const);
- *   - what is lent to one call does not overlap, and no other thread writes it meanwhile;
+ *   - what is lent to one call does not overlap, and meanwhile no other thread writes any of it, or reads what is not const;
  *   - words and rows are aligned to 4 bytes. A pointer with the number 0 may be any pointer that is not null.
  *
- * A call needs up to 150 KiB of stack: load of a chain through all 511 elements (it judges a table and an index of its own before it writes, and
- * walks the chain by recursion). A decision needs 40 KiB, one from the index 4 KiB.
+ * Stack, measured, not proved: have 160 KiB; a smaller stack may end the process.
  */
 #ifndef QUANDRILOF_H
 #define QUANDRILOF_H
@@ -53,7 +52,7 @@ enum {
     QD_ASSOCIATE = 9 /* user attribute, attribute */
 };
 
-/* Rights are the bits of a right set: right r is the bit 1 << r. */
+/* Rights, 0 to 31, are the bits of a right set: right r is the bit UINT32_C(1) << r. Those without a name are spare. */
 enum {
     QD_RIGHT_READ = 0,
     QD_RIGHT_WRITE = 1,
@@ -71,7 +70,7 @@ enum {
 };
 
 /* Sorts of a prohibition's subject, and its forms. */
-enum { QD_BY_USER = 1, QD_BY_PROCESS = 2, QD_BY_ATTRIBUTE = 3 };
+enum { QD_BY_USER = 1, QD_BY_PROCESS = 2, QD_BY_USER_ATTRIBUTE = 3 };
 enum { QD_DISJUNCTIVE = 0, QD_CONJUNCTIVE = 1 };
 
 /* Refusal numbers. The lowest that applies is given. */
@@ -85,46 +84,52 @@ enum {
     QD_CYCLE = 7,         /* the assignment would close a cycle, or child equals container */
     QD_ONLY_ONE = 8,      /* it is the child's only assignment */
     QD_IN_USE = 9,        /* something is assigned to the element, or something names it; a prohibition names the process */
-    QD_TOO_FEW = 10,      /* a limit is reached, or the lent rows or bytes are too few */
+    QD_NO_ROOM = 10,      /* the limit is reached, or the lent rows or output bytes are too few */
     QD_IMAGE_FORM = 11,   /* the image has a first byte and its form is not 1 */
     QD_IMAGE_LENGTH = 12, /* the image is cut, longer than its fields, or has non-zero filling bits */
     QD_IMAGE_FIELD = 13,  /* a count, field or order in the image breaks a rule */
     QD_IMAGE_NAMES = 14   /* the image names something unknown, a wrong kind or pairing, a cycle, or an unassigned element */
 };
 
+/* Of qd_is_index, qd_contains, the decisions and the upper half of qd_explain: an answer above QD_REFUSED is a refusal, its number is the answer minus
+ * QD_REFUSED. A refusal is not zero: test == 1 or == 2, never for truth. */
+enum { QD_REFUSED = 16 };
+
 /* Makes the memory an empty table, whatever it held. Answers 0, or 1 where it has another length than QD_TABLE_WORDS. */
 uint32_t qd_new(uint32_t *table, size_t words);
 
 /* Makes the memory the table of the policy that the image spells, whatever it held. Answers 0, or 1, 11, 12, 13 or 14: refused, the memory is as it
- * was. */
+ * was. Lend all bytes of the image; one longer than QD_IMAGE_MOST is always refused. */
 uint32_t qd_load(uint32_t *table, size_t words, const uint8_t *image, size_t bytes);
 
 /* Writes the image of the table's policy to the front of `out`, and no byte beyond it. Answers refusal * 2^32 + length: the length of the image, or
  * the refusal 1 or 10 (fewer bytes were lent than the image has; none was written). */
 uint64_t qd_save(const uint32_t *table, size_t words, uint8_t *out, size_t bytes);
 
-/* Makes the bytes the index of the table, whatever they were. Answers 0, 1 or 2. */
+/* Makes the bytes the index of the table, whatever they were. Answers 0, or the refusal 1 or 2. */
 uint32_t qd_build_index(const uint32_t *table, size_t words, uint8_t *index, size_t bytes);
 
-/* Whether the bytes are the index of the table. Answers 1 for yes, 0 for no, or 16 plus the refusal number 1 or 2. */
+/* Whether the bytes are the index of the table. Answers 1 for yes, 0 for no, or QD_REFUSED plus the refusal number 1 or 2: test == 1, never for
+ * truth. */
 uint32_t qd_is_index(const uint32_t *table, size_t words, const uint8_t *index, size_t bytes);
 
-/* Whether x is y or a chain of assignments leads from x to y. Answers 1 for yes, 0 for no, or 16 plus the refusal number 1, 2 or 4. */
+/* Whether x is y or a chain of assignments leads from x to y. Answers 1 for yes, 0 for no, or QD_REFUSED plus the refusal number 1, 2 or 4: test
+ * == 1, never for truth. */
 uint32_t qd_contains(const uint32_t *table, size_t words, uint32_t x, uint32_t y);
 
-/* May this process do this operation with these arguments? Answers 0 for deny, 1 or 2 for the alternative that is granted, or 16 plus the refusal
- * number 1, 2, 4 or 5. Containment is searched in the table. */
+/* May this process do this operation with these arguments? Answers 0 for deny, 1 or 2 for the alternative that is granted, or QD_REFUSED plus the
+ * refusal number 1, 2, 4 or 5: test == 1 or == 2, never for truth. Containment is searched in the table. */
 uint32_t qd_decide(const uint32_t *table, size_t words, uint32_t process, uint32_t operation, uint32_t a, uint32_t b, uint32_t c);
 
-/* The same, with containment read from the bits of the index alone: with the table's index the same answer, for every input; over other bytes what
- * the rule says with those bits read as containment. An index of another length is refused with 2. */
+/* The same, with containment read from the bits of the index alone: with the table's index the same answer, on every table that new, load and the
+ * commands left; over other bytes what the rule says with those bits read as containment. An index of another length is refused with 2. */
 uint32_t qd_decide_indexed(const uint32_t *table, size_t words, const uint8_t *index, size_t bytes, uint32_t process, uint32_t operation,
                            uint32_t a, uint32_t b, uint32_t c);
 
-/* A row of an explanation. Of a grant: the argument (from 1), the right, a class that contains the argument, in `number`, and the lowest association
- * that authorizes the right in that class; `cause` is 0. Of a deny: the alternative, its first argument and right that fail, the cause and a
- * number: cause 1, the right is not held, and the lowest class that lacks it, 0 if there is none; cause 2, 3 or 4, restricted through the user, the
- * process or an attribute, and the lowest such subject; the last three fields are 0. */
+/* A row of an explanation. Of a grant: the granted alternative, the argument (from 1), the right, a class that contains the argument, in `number`,
+ * and the lowest association that authorizes the right in that class; `cause` is 0. Of a deny: the alternative, its first argument and right that
+ * fail, the cause and a number: cause 1, the right is not held, and the lowest class that lacks it, 0 if there is none; cause 2, 3 or 4, restricted
+ * through the user, the process or an attribute, and the lowest such subject; the last three fields are 0. */
 struct qd_row {
     uint32_t alternative;
     uint32_t argument;
@@ -143,8 +148,8 @@ uint64_t qd_explain(const uint32_t *table, size_t words, uint32_t process, uint3
                     struct qd_row *rows, size_t count);
 
 /* The commands. Each takes the table and the index and leaves both up to date; it answers 0 where it was done, else the refusal number, and then
- * leaves every word and byte. It is judged on the table and on the index's length alone. Where the index was not the table's, the first five
- * commands make it so; the others leave it as it was. */
+ * leaves every word and byte. It is judged on the numbers, the table and the index's length, never on the index's bytes. Where the index was not the
+ * table's, the first five commands make it so; the others leave it as it was. */
 
 /* Creates a policy class. Refusals: 1, 2, 3. */
 uint32_t qd_create_class(uint32_t *table, size_t words, uint8_t *index, size_t bytes, uint32_t id);
@@ -167,14 +172,16 @@ uint32_t qd_create_association(uint32_t *table, size_t words, uint8_t *index, si
 /* Deletes an association, by its exact triple. Refusals: 1, 2, 4, 5, 6. */
 uint32_t qd_delete_association(uint32_t *table, size_t words, uint8_t *index, size_t bytes, uint32_t attribute, uint32_t rights, uint32_t target);
 
-/* Creates a prohibition. The lists may be of any length; more than four ids are refused with 6, after 2, 4 and 5 were judged over all of them.
- * Refusals: 1, 2, 3, 4, 5, 6, 10. */
+/* Creates a prohibition. The lists may be of any length; more than four ids are refused with 6, after 2, 4 and 5 were judged over all of them. An
+ * empty list: any pointer but NULL, and 0. Refusals: 1, 2, 3, 4, 5, 6, 10. */
 uint32_t qd_create_prohibition(uint32_t *table, size_t words, uint8_t *index, size_t bytes, uint32_t sort, uint32_t subject, uint32_t form,
-                               uint32_t rights, const uint32_t *inclusion, size_t inclusions, const uint32_t *exclusion, size_t exclusions);
+                               uint32_t rights, const uint32_t *inclusions, size_t inclusion_count, const uint32_t *exclusions,
+                               size_t exclusion_count);
 
-/* Deletes a prohibition, by its exact fields. Refusals: 1, 2, 4, 5, 6. */
+/* Deletes a prohibition, by its exact fields. An empty list: any pointer but NULL, and 0. Refusals: 1, 2, 4, 5, 6. */
 uint32_t qd_delete_prohibition(uint32_t *table, size_t words, uint8_t *index, size_t bytes, uint32_t sort, uint32_t subject, uint32_t form,
-                               uint32_t rights, const uint32_t *inclusion, size_t inclusions, const uint32_t *exclusion, size_t exclusions);
+                               uint32_t rights, const uint32_t *inclusions, size_t inclusion_count, const uint32_t *exclusions,
+                               size_t exclusion_count);
 
 /* Starts a process of a user. Refusals: 1, 2, 3, 4, 5. */
 uint32_t qd_start_process(uint32_t *table, size_t words, uint8_t *index, size_t bytes, uint32_t process, uint32_t user);

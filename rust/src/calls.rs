@@ -80,8 +80,9 @@ pub fn decide(table: &[u32], request: &Request) -> Result<Decision, Refusal> {
     decided(unsafe { raw::qd_decide(table.as_ptr(), table.len(), process, operation, first, second, third) })
 }
 
-/// The decision, with containment read from the bits of the index alone. With the table's index it is [`decide`]'s answer, for
-/// every request; over other bytes it is what the rule says with those bits read as containment. Refused with 1, 2, 4, 5.
+/// The decision, with containment read from the bits of the index alone. With the table's index it is [`decide`]'s answer, on
+/// every table that new, load and the commands left; over other bytes it is what the rule says with those bits read as
+/// containment. Refused with 1, 2, 4, 5.
 pub fn decide_indexed(table: &[u32], index: &[u8], request: &Request) -> Result<Decision, Refusal> {
     let Request { process, operation, first, second, third } = *request;
     decided(unsafe {
@@ -122,9 +123,9 @@ pub fn explain(table: &[u32], request: &Request, rows: &mut [Row]) -> Result<Exp
 
 /// Creates a policy class. Refused with 1, 2, 3.
 ///
-/// Of this and the other commands: each takes the table and its index and leaves both up to date. It is judged on the table and
-/// on the index's length alone. Where the index was not the table's, the first five commands make it so; the others leave it as
-/// it was.
+/// Of this and the other commands: each takes the table and its index and leaves both up to date. It is judged on the numbers, the
+/// table and the index's length, never on the index's bytes. Where the index was not the table's, the first five commands make it
+/// so; the others leave it as it was.
 pub fn create_class(table: &mut [u32], index: &mut [u8], id: u32) -> Result<(), Refusal> {
     done(unsafe {
         raw::qd_create_class(table.as_mut_ptr(), table.len(), index.as_mut_ptr(), index.len(), id)

@@ -10,9 +10,8 @@
 //!
 //! [`Table`] owns its memory. The functions of [`calls`] are for those who own it themselves.
 //!
-//! A call takes no memory but what is lent to it and the stack: load up to 150 KiB of it, where a chain of assignments leads through
-//! all elements; the question whether an index is the table's up to 116 KiB; the commands and the building of an index up to 86 KiB;
-//! the plain decision, the explanation and containment up to 40 KiB; the decision from the index 4 KiB.
+//! A call takes no memory but what is lent to it and the stack. Stack, measured, not proved: have 160 KiB; a smaller stack may end the
+//! process.
 //!
 //! ```
 //! use quandrilof::{form, operation, right, sort, Decision, Prohibition, Refusal, Request, Table};
@@ -56,6 +55,8 @@
 //! # }
 //! ```
 
+#![warn(missing_docs)]
+
 pub mod calls;
 mod numbers;
 mod raw;
@@ -64,7 +65,7 @@ mod request;
 mod table;
 
 pub use numbers::{form, kind, operation, right, sort};
-pub use refusal::Refusal;
+pub use refusal::{NoRefusal, Refusal};
 pub use request::{Decision, Explanation, Prohibition, Request, Row};
 pub use table::Table;
 

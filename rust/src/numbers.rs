@@ -2,9 +2,13 @@
 
 /// Kinds of elements.
 pub mod kind {
+    /// A user.
     pub const USER: u32 = 1;
+    /// A user attribute: users and user attributes are assigned to it.
     pub const USER_ATTRIBUTE: u32 = 2;
+    /// An object. It counts as an attribute too.
     pub const OBJECT: u32 = 3;
+    /// An object attribute: objects and object attributes are assigned to it.
     pub const OBJECT_ATTRIBUTE: u32 = 4;
     /// A policy class.
     pub const CLASS: u32 = 5;
@@ -34,25 +38,41 @@ pub mod operation {
 
 /// Rights, 0 to 31. In a right set, right r is the bit `1 << r`. Those without a name are spare.
 pub mod right {
+    /// Asked for by read, find, print and copy.
     pub const READ: u32 = 0;
+    /// Asked for by write, move and copy.
     pub const WRITE: u32 = 1;
+    /// Asked for by find.
     pub const FIND: u32 = 2;
+    /// Asked for by print and copy.
     pub const PRINT: u32 = 3;
+    /// Asked for by move, over the object.
     pub const MOVE: u32 = 4;
+    /// Asked for by move, over the second argument.
     pub const TAKE_OUT: u32 = 5;
+    /// Asked for by move, over the third argument, and by copy, over the second.
     pub const PUT_IN: u32 = 6;
+    /// Asked for by assign, over the first argument.
     pub const ASSIGN_FROM: u32 = 7;
+    /// Asked for by assign, over the second argument.
     pub const ASSIGN_TO: u32 = 8;
+    /// Asked for by deassign, over the first argument.
     pub const DEASSIGN_FROM: u32 = 9;
+    /// Asked for by deassign, over the second argument.
     pub const DEASSIGN_TO: u32 = 10;
+    /// Asked for by associate, over the user attribute.
     pub const ASSOC_FROM: u32 = 11;
+    /// Asked for by associate, over the attribute.
     pub const ASSOC_TO: u32 = 12;
 }
 
 /// Sorts of a prohibition's subject.
 pub mod sort {
+    /// The processes of one user.
     pub const USER: u32 = 1;
+    /// One process.
     pub const PROCESS: u32 = 2;
+    /// The processes of all users within one user attribute.
     pub const USER_ATTRIBUTE: u32 = 3;
 }
 

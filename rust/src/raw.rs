@@ -94,10 +94,10 @@ extern "C" {
         subject: u32,
         form: u32,
         rights: u32,
-        inclusion: *const u32,
-        inclusions: usize,
-        exclusion: *const u32,
-        exclusions: usize,
+        inclusions: *const u32,
+        inclusion_count: usize,
+        exclusions: *const u32,
+        exclusion_count: usize,
     ) -> u32;
     pub fn qd_delete_prohibition(
         table: *mut u32,
@@ -108,10 +108,10 @@ extern "C" {
         subject: u32,
         form: u32,
         rights: u32,
-        inclusion: *const u32,
-        inclusions: usize,
-        exclusion: *const u32,
-        exclusions: usize,
+        inclusions: *const u32,
+        inclusion_count: usize,
+        exclusions: *const u32,
+        exclusion_count: usize,
     ) -> u32;
     pub fn qd_start_process(
         table: *mut u32,

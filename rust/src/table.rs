@@ -9,7 +9,9 @@ use std::fmt;
 ///
 /// It owns the memory of both. The memory always holds a table, and the index is always the table's, so that no call below is
 /// refused with 1 or for the index.
-#[derive(Clone)]
+///
+/// Two tables are equal if their words and their indexes are. Printed with `{:?}` a table shows its five counts.
+#[derive(Clone, PartialEq, Eq)]
 pub struct Table {
     words: Box<[u32]>,
     index: Box<[u8]>,
@@ -159,6 +161,14 @@ impl Default for Table {
 
 impl fmt::Debug for Table {
     fn fmt(&self, f: &mut fmt::Formatter<'_>) -> fmt::Result {
-        f.debug_struct("Table").finish_non_exhaustive()
+        // the image begins with the form, 4 bits, and the counts: 9, 11, 10, 8 and 8 bits
+        let head = self.save()[..7].iter().fold(0, |bits, byte| bits << 8 | u64::from(*byte));
+        f.debug_struct("Table")
+            .field("elements", &(head >> 43 & 0x1ff))
+            .field("assignments", &(head >> 32 & 0x7ff))
+            .field("associations", &(head >> 22 & 0x3ff))
+            .field("prohibitions", &(head >> 14 & 0xff))
+            .field("processes", &(head >> 6 & 0xff))
+            .finish_non_exhaustive()
     }
 }

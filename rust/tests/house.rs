@@ -3,7 +3,7 @@
 mod common;
 
 use common::{same, step, Seen};
-use quandrilof::{form, kind, operation, sort, Decision, Prohibition, Refusal, Request, Table};
+use quandrilof::{form, kind, operation, sort, Decision, NoRefusal, Prohibition, Refusal, Request, Table};
 use second::house::small_house;
 use second::Command;
 
@@ -59,6 +59,19 @@ fn ask(house: &Table, process: u32, operation: u32, first: u32) -> String {
 fn the_house_is_the_second_programs() {
     let machine = small_house();
     same(&house(), &machine.policy, &machine.index);
+}
+
+/// Tables are equal as their words and indexes are, and show their counts.
+#[test]
+fn tables_are_compared_and_shown() {
+    let mut other = house();
+    assert_eq!(Table::load(&other.save()), Ok(house()));
+    assert_eq!(other.assign(6, 4), Ok(()));
+    assert_ne!(other, house());
+    assert_eq!(
+        format!("{other:?}"),
+        "Table { elements: 11, assignments: 12, associations: 2, prohibitions: 0, processes: 2, .. }"
+    );
 }
 
 #[test]
@@ -136,6 +149,10 @@ fn a_second_chain_remains() {
 fn refusals() {
     for (number, refusal) in (1..).zip(Refusal::ALL) {
         assert_eq!(refusal.number(), number);
+        assert_eq!(Refusal::try_from(number), Ok(refusal));
         assert_eq!(refusal.to_string(), format!("refusal {number}: {}", refusal.text()));
+    }
+    for number in [0, 15, 16, 17, u32::MAX] {
+        assert_eq!(Refusal::try_from(number), Err(NoRefusal(number)));
     }
 }

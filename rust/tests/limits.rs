@@ -74,7 +74,7 @@ fn two_thousand_assignments_by_commands() {
         assert_eq!(table.assign(child, container), Ok(()));
     }
     let (child, container) = pairs.next().unwrap();
-    assert_eq!(table.assign(child, container), Err(Refusal::TooFew));
+    assert_eq!(table.assign(child, container), Err(Refusal::NoRoom));
     let policy = second::load(&table.save()).unwrap();
     assert_eq!(policy.counts(), [511, 2_000, 0, 0, 0]);
     same(&table, &policy, &second::build_index(&policy));
@@ -130,7 +130,7 @@ fn a_thousand_associations() {
     for rights in (1..=1_000).rev() {
         assert_eq!(table.create_association(2, rights, 3), Ok(()));
     }
-    assert_eq!(table.create_association(2, 1_001, 3), Err(Refusal::TooFew));
+    assert_eq!(table.create_association(2, 1_001, 3), Err(Refusal::NoRoom));
     assert_eq!(table.create_association(2, 1_000, 3), Err(Refusal::Already));
     assert_eq!(table.create_association(2, 0, 3), Err(Refusal::IllFormed));
     let policy = second::load(&table.save()).unwrap();
@@ -140,7 +140,7 @@ fn a_thousand_associations() {
     assert_eq!(table.delete_association(2, 500, 3), Ok(()));
     assert_eq!(table.create_association(3, 1_001, 2), Err(Refusal::NotAllowed));
     assert_eq!(table.create_association(2, u32::MAX, 3), Ok(()));
-    assert_eq!(table.create_association(2, 500, 3), Err(Refusal::TooFew));
+    assert_eq!(table.create_association(2, 500, 3), Err(Refusal::NoRoom));
 }
 
 #[test]
@@ -159,7 +159,7 @@ fn two_hundred_prohibitions() {
     for rights in (1..=200).rev() {
         assert_eq!(table.create_prohibition(&given(rights, &[2])), Ok(()));
     }
-    assert_eq!(table.create_prohibition(&given(201, &[2])), Err(Refusal::TooFew));
+    assert_eq!(table.create_prohibition(&given(201, &[2])), Err(Refusal::NoRoom));
     assert_eq!(table.create_prohibition(&given(200, &[2])), Err(Refusal::Already));
     assert_eq!(table.create_prohibition(&given(201, &[])), Err(Refusal::IllFormed));
     assert_eq!(table.create_prohibition(&given(201, &[2; 5])), Err(Refusal::IllFormed));
@@ -169,7 +169,7 @@ fn two_hundred_prohibitions() {
     same(&table, &policy, &second::build_index(&policy));
     assert_eq!(table.delete_prohibition(&given(7, &[2])), Ok(()));
     assert_eq!(table.create_prohibition(&given(201, &[2])), Ok(()));
-    assert_eq!(table.create_prohibition(&given(7, &[2])), Err(Refusal::TooFew));
+    assert_eq!(table.create_prohibition(&given(7, &[2])), Err(Refusal::NoRoom));
 }
 
 /// Every group at its limit, every prohibition with four and four ids.
@@ -199,6 +199,10 @@ fn the_longest_image() {
     let image = second::save(&policy);
     assert_eq!((image.len(), IMAGE_MOST), (15_115, 15_115));
     let table = table_of(&policy);
+    assert_eq!(
+        format!("{table:?}"),
+        "Table { elements: 511, assignments: 2000, associations: 1000, prohibitions: 200, processes: 255, .. }"
+    );
     same(&table, &policy, &second::build_index(&policy));
     save_into(table.words(), &image, &mut Random::new(1));
     let mut longer = image.clone();

@@ -12,10 +12,10 @@ use lib.Dec.{ltb}
 use lib.ListN.{length, take, drop, getD, set, length-append}
 use lib.Pow.{pow-pos, pow-add, shr-lt, shr-shr}
 use lib.Seq.{length-take-le, split-at, set-split}
-use Rattle.model.specs.Bits.{bitsN, bitsOf, numAt}
+use Rattle.model.specs.Bits.{bitsN, bitsOf, numAt, areBytes}
 use Rattle.model.specs.Lists.{allOf}
 use Rattle.model.proofs.Truth.{and-cut, and-join}
-use Rattle.model.proofs.Image.Bits.{areBytes, length-bitsN, split, length-bitsOf, num-low, high}
+use Rattle.model.proofs.Image.Bits.{length-bitsN, split, length-bitsOf, num-low, high}
 use Rattle.bits.specs.Cursor.{written}
 use Rattle.bits.proofs.Spelling.{low}
 use Rattle.bits.proofs.Places.{middle, write-middle}

@@ -11,8 +11,8 @@ use lib.Dec.{lit<}
 use lib.ListN.{length, getD, set, length-set}
 use lib.Arith.{digits-lt}
 use lib.Pow.{pow-pos, pow-mono, pow-add, shl-exact, shr-shr}
-use Rattle.model.specs.Bits.{bitsN, bitsOf, numAt}
-use Rattle.model.proofs.Image.Bits.{areBytes, length-bitsN, split, length-bitsOf, bytes-of-bits, bytes-are, spelled-lt}
+use Rattle.model.specs.Bits.{bitsN, bitsOf, numAt, areBytes}
+use Rattle.model.proofs.Image.Bits.{length-bitsN, split, length-bitsOf, bytes-of-bits, bytes-are, spelled-lt}
 use Rattle.bits.specs.Cursor.{written, There, Taken, Written}
 use Rattle.bits.proofs.Spelling.{low}
 use Rattle.bits.proofs.Places.{reads-join, read-none, write-none, writes-join}

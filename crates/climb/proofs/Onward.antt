@@ -8,15 +8,15 @@ use Prim.Native.Nat.{ℕ, _<_}
 use native.Mathlib.Omega.{arith}
 use borrow.Author.Tests.{eqb-true, eq-eqb, ne-eqb}
 use lib.Dec.{eqb}
-use lib.ListN.{getD, replicate}
+use lib.ListN.{getD}
 use lib.Seq.{ext-getD}
 use Rattle.model.specs.Contain.{Within, itself, contained}
 use Rattle.model.proofs.Truth.{or-cut, or-left, or-right}
 use Rattle.model.proofs.Contained.{within-says, within-when}
 use Rattle.table.specs.View.{policyOf}
 use Rattle.climb.specs.Marking.{marksOf, alsoMarks}
-use Rattle.climb.specs.Queued.{Container, Marked, Grown, Front, Closed, Climbed, Further}
-use Rattle.climb.proofs.Queue.{zeros, marked-small, grown-split}
+use Rattle.climb.specs.Queued.{Container, Marked, Grown, Front, Closed, Climbed, Further, Blank}
+use Rattle.climb.proofs.Queue.{marked-small, grown-split}
 use Rattle.climb.proofs.Steps.{closed-all}
 use Rattle.climb.proofs.Exactly.{marks-length, mark-digit, also-length, mark-also, digit-when}
 
@@ -63,14 +63,13 @@ module _ {mem : List ℕ} {x : ℕ} {seen queue : List ℕ} {tail : ℕ} (c : Cl
           ∙ sym (mark-also mem seen x y l)
 
 -- where nothing was marked, the marks are those of all that x is within
-pub also-none : (mem : List ℕ) (x : ℕ) → alsoMarks mem (replicate 512 0) x ≡ marksOf mem x
-also-none mem x = ext-getD 0 (alsoMarks mem (replicate 512 0) x) (marksOf mem x) (also-length mem (replicate 512 0) x ∙ sym (marks-length mem x)) (λ y l. each y (omega (arith, also-length mem (replicate 512 0) x)))
+also-none : (mem : List ℕ) {seen : List ℕ} (x : ℕ) → Blank seen → alsoMarks mem seen x ≡ marksOf mem x
+also-none mem {seen} x b =
+    ext-getD 0 (alsoMarks mem seen x) (marksOf mem x) (also-length mem seen x ∙ sym (marks-length mem x)) (λ y l. each y (omega (arith, also-length mem seen x)))
   where
-    each : (y : ℕ) → y < 512 → getD (alsoMarks mem (replicate 512 0) x) y 0 ≡ getD (marksOf mem x) y 0
-    each y l =
-        mark-also mem (replicate 512 0) x y l
-        ∙ rw (ne-eqb (getD (replicate 512 0) y 0) 1 (λ e. omega (arith, zeros y))) (sym (mark-digit mem x y l))
+    each : (y : ℕ) → y < 512 → getD (alsoMarks mem seen x) y 0 ≡ getD (marksOf mem x) y 0
+    each y l = mark-also mem seen x y l ∙ rw (ne-eqb (getD seen y 0) 1 (λ e. omega (arith, b .zero-at y))) (sym (mark-digit mem x y l))
 
 -- so a climb from no marks marks all that x is within
-pub first-marks : {mem : List ℕ} {x : ℕ} {seen queue : List ℕ} {r : ℕ} → Further mem x (replicate 512 0) seen queue r → seen ≡ marksOf mem x
-first-marks {mem} {x} f = f .marks ∙ also-none mem x
+pub first-marks : {mem : List ℕ} {x : ℕ} {seen₀ seen queue : List ℕ} {r : ℕ} → Blank seen₀ → Further mem x seen₀ seen queue r → seen ≡ marksOf mem x
+first-marks {mem} {x} b f = f .marks ∙ also-none mem x b

@@ -9,7 +9,7 @@ use native.Mathlib.Decide.{ℕ-discrete, decLt}
 use mathlib.Core.List.{List, [], _∷_}
 use lib.ListN.{length, getD, set, replicate, length-set, length-replicate, getD-replicate, List·getD-eq-default}
 use lib.Seq.{getD-set-same, getD-set-other}
-use Rattle.climb.specs.Queued.{Marked, isOne, markCount, At, Listed, Grown, Closed, Kept}
+use Rattle.climb.specs.Queued.{Marked, isOne, markCount, At, Listed, Grown, Closed, Kept, Blank}
 
 -- a mark counts at most once
 isOne-le : (x : ℕ) → isOne x ≤ 1
@@ -34,10 +34,10 @@ marks-set [] i h n = absurd (not-suc-le-zero h)
 marks-set (x ∷ l) zero h n = omega (arith, isOne-not x n)
 marks-set (x ∷ l) (suc i) h n = omega (arith, marks-set l i (le-of-suc-le-suc h) n)
 
--- none is marked
-marks-none : (n : ℕ) → markCount (replicate n 0) ≡ 0
-marks-none zero = refl
-marks-none (suc n) = omega (arith, marks-none n)
+-- where each mark is 0 none counts
+marks-none : (l : List ℕ) → ((y : ℕ) → getD l y 0 ≡ 0) → markCount l ≡ 0
+marks-none [] h = refl
+marks-none (x ∷ l) h = omega (arith, isOne-not x (λ e. omega (arith, h 0)), marks-none l (λ y. h (suc y)))
 
 -- each mark is 0
 pub zeros : (y : ℕ) → _≡_ {A = ℕ} (getD (replicate 512 0) y 0) 0
@@ -46,24 +46,30 @@ zeros y = elim (decLt y 512) [
   | no l ↦ List·getD-eq-default (replicate 512 0) 0 {n = y} (omega (arith, length-replicate {A = ℕ} 512 0))
 ]
 
--- nothing is marked, and nothing is queued
-pub listed-none : Listed (replicate 512 0) (replicate 512 0) 0
-listed-none = record {
-  marks = length-replicate {A = ℕ} 512 0;
-  room = length-replicate {A = ℕ} 512 0;
-  counted = marks-none 512;
-  short = omega arith;
-  bit = λ y. omega (arith, zeros y);
-  marked = λ k l. absurd (omega arith);
-  listed = λ y l m. absurd (omega (arith, zeros y));
-}
+-- so in zeros no element is marked
+pub blank-zeros : Blank (replicate 512 0)
+blank-zeros = record { size = length-replicate {A = ℕ} 512 0; zero-at = zeros }
 
--- so each container of a marked element is marked: where nothing is marked, a climb can start
+module _ {seen queue : List ℕ} (b : Blank seen) (room : length queue ≡ 512) where
+  -- nothing is marked, and nothing is queued
+  listed-blank : Listed seen queue 0
+  listed-blank = record {
+    marks = b .size;
+    room = room;
+    counted = marks-none seen (b .zero-at);
+    short = omega arith;
+    bit = λ y. omega (arith, b .zero-at y);
+    marked = λ k l. absurd (omega arith);
+    listed = λ y l m. absurd (omega (arith, b .zero-at y));
+  }
+
+  -- so each container of a marked element is marked: where nothing is marked, a climb can start
+  pub closed-blank : (mem : List ℕ) → Closed mem seen queue 0
+  closed-blank mem = record { good = listed-blank; closed = λ x y l m c. absurd (omega (arith, b .zero-at x)) }
+
+-- so it can from zeros
 pub closed-none : (mem : List ℕ) → Closed mem (replicate 512 0) (replicate 512 0) 0
-closed-none mem = record {
-  good = listed-none;
-  closed = λ x y l m c. absurd (omega (arith, zeros x));
-}
+closed-none mem = closed-blank blank-zeros (length-replicate {A = ℕ} 512 0) mem
 
 module _ {seen queue : List ℕ} {tail : ℕ} (g : Listed seen queue tail) where
   -- a marked element is below 512

@@ -1,14 +1,17 @@
 -- What the marks and the queue keep while the climb goes on: the contracts of its steps cite these.
 -- Assumes nothing.
 use mathlib.Core.Path.{_≡_}
+use mathlib.Core.Bool.{_&&_, _||_}
 use mathlib.Core.List.{List, [], _∷_}
-use Prim.Native.Nat.{ℕ, zero, suc, _+_, _*_, _≤_, _<_}
+use Prim.Native.Nat.{ℕ, zero, suc, _+_, _≤_, _<_}
+use lib.Dec.{eqb}
 use lib.ListN.{length, getD}
-use Rattle.model.specs.Contain.{Within}
+use Rattle.model.specs.Contain.{Within, contained}
+use Rattle.model.specs.Index.{bitAt}
 use Rattle.table.specs.Layout.{assignmentCount}
 use Rattle.table.specs.View.{policyOf}
 use Rattle.table.specs.Facts.{AmongFirst}
-use Rattle.climb.specs.Marking.{marksOf, alsoMarks}
+use Rattle.climb.specs.Marking.{alsoMarks}
 
 -- some assignment of the table has x for its child and y for its container
 abbrev pub Container : List ℕ → (x y : ℕ) → Type 0
@@ -87,9 +90,17 @@ pub record Kept (queue : List ℕ) (tail : ℕ) (queue′ : List ℕ) (tail′ :
   pub longer : tail ≤ tail′
   pub kept : (k : ℕ) → k < tail → getD queue′ k 0 ≡ getD queue k 0
 
--- row k holds the marks of all that x is within, 512 bytes a row, and every other byte stays
+-- no element is marked
+pub record Blank (seen : List ℕ) : Type 0 where
+  pub size : length seen ≡ 512
+  pub zero-at : (y : ℕ) → getD seen y 0 ≡ 0
+
+-- the bit of y in row k is set, 64 bytes a row, and every other bit stays
+pub record BitSet (k y : ℕ) (rows rows′ : List ℕ) : Type 0 where
+  pub size : length rows′ ≡ length rows
+  pub is : (j z : ℕ) → z < 512 → bitAt rows′ j z ≡ (bitAt rows j z || eqb j k && eqb z y)
+
+-- in row k the bits of all that x is within are set, 64 bytes a row, and every other bit stays
 pub record RowMarked (mem : List ℕ) (x k : ℕ) (rows rows′ : List ℕ) : Type 0 where
   pub size : length rows′ ≡ length rows
-  pub row : (y : ℕ) → y < 512 → getD rows′ (512 * k + y) 0 ≡ getD (marksOf mem x) y 0
-  pub below : (i : ℕ) → i < 512 * k → getD rows′ i 0 ≡ getD rows i 0
-  pub above : (i : ℕ) → 512 * k + 512 ≤ i → getD rows′ i 0 ≡ getD rows i 0
+  pub is : (j y : ℕ) → y < 512 → bitAt rows′ j y ≡ (bitAt rows j y || eqb j k && contained (policyOf mem) x y)

@@ -8,7 +8,7 @@ ghost use Rattle.model.specs.Calls.{contains};
 ghost use Rattle.table.specs.View.{policyOf, memory};
 ghost use Rattle.table.specs.Facts.{Table};
 ghost use Rattle.climb.specs.Marking.{marksOf};
-ghost use Rattle.climb.specs.Queued.{Container, Listed, Grown, Front, Closed, Climbed, Further, Kept, RowMarked};
+ghost use Rattle.climb.specs.Queued.{Container, Listed, Grown, Front, Closed, Climbed, Further, Kept, Blank, BitSet, RowMarked};
 ghost use Rattle.climb.specs.Answers.{told};
 
 // What the plain containment call answers.
@@ -109,19 +109,43 @@ pub fn marks(mem: &[u32], x: u32) -> [u8; 512]
     seen
 }
 
-// Writes the marks of all that x is within as row k, 512 bytes a row.
-pub fn mark_row(mem: &[u32], x: u32, rows: &mut [u8], k: usize)
+// Sets the bit of y in row k, 64 bytes a row.
+fn set_bit(rows: &mut [u8], k: usize, y: u32)
+    requires { ⌜ y < 512 ⌝ }
+    requires { ⌜ 64 * k + 64 ≤ length (now rows) ⌝ }
+    requires { ⌜ length (now rows) ≤ 256 ⌝ }
+    ensures { λ _. ⌜ BitSet k y (now (rows .entry)) (now (rows .exit)) ⌝ }
+{
+    let place = 64 * k + (y / 8) as usize;
+    rows[place] = rows[place] | (128 >> (y % 8));
+}
+
+// Sets in row k the bits of all that x is within, 64 bytes a row. The lent marks are zero before and after; the queue is lent for the climb alone.
+pub fn mark_row(
+    mem: &[u32],
+    x: u32,
+    rows: &mut [u8],
+    k: usize,
+    seen: &mut [u8; 512],
+    queue: &mut [u32; 512],
+)
     requires { ⌜ Table (now mem) ⌝ }
     requires { ⌜ x < 512 ⌝ }
-    requires { ⌜ 512 * k + 512 ≤ length (now rows) ⌝ }
-    requires { ⌜ length (now rows) ≤ 2048 ⌝ }
+    requires { ⌜ 64 * k + 64 ≤ length (now rows) ⌝ }
+    requires { ⌜ length (now rows) ≤ 256 ⌝ }
+    requires { ⌜ Blank (now seen) ⌝ }
+    requires { ⌜ length (now queue) ≡ 512 ⌝ }
     ensures { λ _. ⌜ RowMarked (now (mem .entry)) x k (now (rows .entry)) (now (rows .exit)) ⌝ }
+    ensures { λ _. ⌜ Blank (now (seen .exit)) ⌝ }
+    ensures { λ _. ⌜ length (now (queue .exit)) ≡ 512 ⌝ }
 {
-    let m = marks(mem, x);
-    let mut y = 0;
-    while y < 512 {
-        rows[512 * k + y] = m[y];
-        y += 1;
+    let n = climb_on(mem, x, seen, queue, 0);
+    let mut i = 0;
+    while i < n {
+        let y = queue[i];
+        set_bit(rows, k, y);
+        seen[y as usize] = 0;
+        i += 1;
     }
 }
 

@@ -1,22 +1,22 @@
 -- The rows that a decision asks: those of an index, and those of the climbs from the user and from each argument.
 -- Assumes nothing.
-use mathlib.Core.Path.{_≡_, refl, sym, _∙_}
-use mathlib.Core.Bool.{Bool, true, false}
+use mathlib.Core.Path.{_≡_, refl, sym, ap, _∙_}
+use mathlib.Core.Bool.{Bool, true, false, or-false}
 use mathlib.Core.List.{List}
-use Prim.Native.Nat.{ℕ, zero, suc, _+_, _*_, _≤_, _<_}
+use Prim.Native.Nat.{ℕ, _+_, _*_, _-_, _/_, _%_, _^_, _≤_, _<_}
 use native.Mathlib.Omega.{arith}
 use native.Mathlib.Decide.{decLt}
-use borrow.Author.Tests.{lt-ltb, le-ltb}
+use native.Mathlib.Nat.{zero-div}
+use borrow.Author.Tests.{lt-ltb, le-ltb, eq-eqb, ne-eqb}
 use lib.Dec.{eqb}
-use lib.ListN.{length, getD}
-use Rattle.model.specs.Bits.{digit}
+use lib.ListN.{length, getD, replicate, getD-replicate, length-replicate, List·getD-eq-default}
+use Rattle.model.specs.Index.{bitAt}
 use Rattle.model.specs.Policy.{userOf}
 use Rattle.model.specs.Contain.{contained}
 use Rattle.model.proofs.Truth.{clash}
 use Rattle.table.specs.View.{policyOf}
-use Rattle.climb.specs.Marking.{marksOf}
 use Rattle.climb.specs.Queued.{RowMarked}
-use Rattle.climb.proofs.Exactly.{mark-digit, contained-far}
+use Rattle.climb.proofs.Exactly.{contained-far}
 use Rattle.request.specs.declared.Request.{Request}
 use Rattle.request.specs.Asks.{Accepted}
 use Rattle.rule.specs.Sight.{markAt, seen}
@@ -56,58 +56,75 @@ climbed-rows {mem} {rows} {q} {user} c = record {
   third = record { whole = λ t. absurd (clash t refl); user = c .user; element = c .third };
 }
 
--- the bit of a test is 1 exactly if the test holds
-digit-says : (b : Bool) → eqb (digit b) 1 ≡ b
-unfolding digit
-digit-says true = refl
-digit-says false = refl
+-- bytes that are all zero have no bit
+pub no-bits : (n j y : ℕ) → bitAt (replicate n 0) j y ≡ false
+unfolding bitAt
+no-bits n j y = rw (zeros (64 * j + y / 8)) (none (7 - y % 8))
+  where
+    zeros : (i : ℕ) → _≡_ {A = ℕ} (getD (replicate n 0) i 0) 0
+    zeros i = elim (decLt i n) [
+      | yes l ↦ getD-replicate {A = ℕ} n i 0 0 l
+      | no l ↦ List·getD-eq-default (replicate n 0) 0 {n = i} (omega (arith, length-replicate {A = ℕ} n 0))
+    ]
 
--- a row that has the marks of a climb says what the element is within
-row-says : (mem rows : List ℕ) (k x : ℕ) → x < 512 → ((y : ℕ) → y < 512 → getD rows (512 * k + y) 0 ≡ getD (marksOf mem x) y 0)
+    none : (k : ℕ) → eqb (0 / 2 ^ k % 2) 1 ≡ false
+    none k = rw (zero-div (2 ^ k)) refl
+
+-- a row whose bits are set by a climb says what the element is within
+row-says : (mem rows : List ℕ) (k x : ℕ) → x < 512 → ((y : ℕ) → y < 512 → bitAt rows k y ≡ contained (policyOf mem) x y)
     → (y : ℕ) → markAt rows k y ≡ contained (policyOf mem) x y
 unfolding markAt
 row-says mem rows k x l h y = elim (decLt y 512) [
-  | yes s ↦ rw (lt-ltb y 512 s, h y s, mark-digit mem x y s) (digit-says (contained (policyOf mem) x y))
+  | yes s ↦ rw (lt-ltb y 512 s) (h y s)
   | no s ↦ let far : 512 ≤ y = omega arith in rw (le-ltb y 512 far) (sym (contained-far mem x y l far))
 ]
 
--- a mark of a climb is 0 or 1
-mark-low : (mem : List ℕ) (x y : ℕ) {n : ℕ} → y < 512 → n ≡ getD (marksOf mem x) y 0 → n ≤ 1
-unfolding digit
-mark-low mem x y l e = rw (e ∙ mark-digit mem x y l) (low (contained (policyOf mem) x y))
-  where
-    low : (b : Bool) → digit b ≤ 1
-    low true = omega arith
-    low false = omega arith
+-- one climb: row k gets its bits
+row-set : {mem rows rows′ : List ℕ} {x : ℕ} (k : ℕ) → RowMarked mem x k rows rows′ → (y : ℕ) → y < 512 → bitAt rows k y ≡ false → bitAt rows′ k y ≡ contained (policyOf mem) x y
+row-set k a y l h = a .is k y l ∙ rw (h, eq-eqb k k refl)
+
+-- every other row stays
+row-stays : {mem rows rows′ : List ℕ} {x : ℕ} (j k : ℕ) → (j ≡ k → ⊥) → RowMarked mem x k rows rows′ → (y : ℕ) → y < 512 → bitAt rows′ j y ≡ bitAt rows j y
+row-stays {mem} {rows} j k n a y l = a .is j y l ∙ rw (ne-eqb j k n) (or-false (bitAt rows j y))
 
 -- the four climbs, one after another
 pub four-climbs : {mem : List ℕ} {q : Request} {user : ℕ} {rows₀ rows₁ rows₂ rows₃ rows₄ : List ℕ} → user < 512 → q .first < 512 → q .second < 512 → q .third < 512
-    → length rows₀ ≡ 2048 → RowMarked mem user 0 rows₀ rows₁ → RowMarked mem (q .first) 1 rows₁ rows₂ → RowMarked mem (q .second) 2 rows₂ rows₃
+    → rows₀ ≡ replicate 256 0 → RowMarked mem user 0 rows₀ rows₁ → RowMarked mem (q .first) 1 rows₁ rows₂ → RowMarked mem (q .second) 2 rows₂ rows₃
     → RowMarked mem (q .third) 3 rows₃ rows₄ → Climbs mem q user rows₄
 four-climbs {mem} {q} {user} {rows₀} {rows₁} {rows₂} {rows₃} {rows₄} u f s t e a b c d = record {
-  size = d .size ∙ c .size ∙ b .size ∙ a .size ∙ e;
+  size = d .size ∙ c .size ∙ b .size ∙ a .size ∙ ap length e ∙ length-replicate {A = ℕ} 256 0;
   user = row-says mem rows₄ 0 user u of-user;
   first = row-says mem rows₄ 1 (q .first) f of-first;
   second = row-says mem rows₄ 2 (q .second) s of-second;
-  third = row-says mem rows₄ 3 (q .third) t (d .row);
-  bit = low;
+  third = row-says mem rows₄ 3 (q .third) t of-third;
 }
   where
-    of-user : (y : ℕ) → y < 512 → getD rows₄ (512 * 0 + y) 0 ≡ getD (marksOf mem user) y 0
-    of-user y l = d .below (512 * 0 + y) (omega arith) ∙ c .below (512 * 0 + y) (omega arith) ∙ b .below (512 * 0 + y) (omega arith) ∙ a .row y l
+    blank₀ : (j y : ℕ) → bitAt rows₀ j y ≡ false
+    blank₀ j y = rw e (no-bits 256 j y)
 
-    of-first : (y : ℕ) → y < 512 → getD rows₄ (512 * 1 + y) 0 ≡ getD (marksOf mem (q .first)) y 0
-    of-first y l = d .below (512 * 1 + y) (omega arith) ∙ c .below (512 * 1 + y) (omega arith) ∙ b .row y l
+    blank₁ : (j : ℕ) → (j ≡ 0 → ⊥) → (y : ℕ) → y < 512 → bitAt rows₁ j y ≡ false
+    blank₁ j n y l = row-stays j 0 n a y l ∙ blank₀ j y
 
-    of-second : (y : ℕ) → y < 512 → getD rows₄ (512 * 2 + y) 0 ≡ getD (marksOf mem (q .second)) y 0
-    of-second y l = d .below (512 * 2 + y) (omega arith) ∙ c .row y l
+    blank₂ : (j : ℕ) → (j ≡ 0 → ⊥) → (j ≡ 1 → ⊥) → (y : ℕ) → y < 512 → bitAt rows₂ j y ≡ false
+    blank₂ j n m y l = row-stays j 1 m b y l ∙ blank₁ j n y l
 
-    low : (k y : ℕ) → k < 4 → y < 512 → getD rows₄ (512 * k + y) 0 ≤ 1
-    low zero y h l = mark-low mem user y l (of-user y l)
-    low (suc zero) y h l = mark-low mem (q .first) y l (of-first y l)
-    low (suc (suc zero)) y h l = mark-low mem (q .second) y l (of-second y l)
-    low (suc (suc (suc zero))) y h l = mark-low mem (q .third) y l (d .row y l)
-    low (suc (suc (suc (suc k)))) y h l = absurd (omega arith)
+    blank₃ : (y : ℕ) → y < 512 → bitAt rows₃ 3 y ≡ false
+    blank₃ y l = row-stays 3 2 (λ e. omega arith) c y l ∙ blank₂ 3 (λ e. omega arith) (λ e. omega arith) y l
+
+    of-user : (y : ℕ) → y < 512 → bitAt rows₄ 0 y ≡ contained (policyOf mem) user y
+    of-user y l =
+        row-stays 0 3 (λ e. omega arith) d y l ∙ row-stays 0 2 (λ e. omega arith) c y l ∙ row-stays 0 1 (λ e. omega arith) b y l
+        ∙ row-set 0 a y l (blank₀ 0 y)
+
+    of-first : (y : ℕ) → y < 512 → bitAt rows₄ 1 y ≡ contained (policyOf mem) (q .first) y
+    of-first y l =
+        row-stays 1 3 (λ e. omega arith) d y l ∙ row-stays 1 2 (λ e. omega arith) c y l ∙ row-set 1 b y l (blank₁ 1 (λ e. omega arith) y l)
+
+    of-second : (y : ℕ) → y < 512 → bitAt rows₄ 2 y ≡ contained (policyOf mem) (q .second) y
+    of-second y l = row-stays 2 3 (λ e. omega arith) d y l ∙ row-set 2 c y l (blank₂ 2 (λ e. omega arith) (λ e. omega arith) y l)
+
+    of-third : (y : ℕ) → y < 512 → bitAt rows₄ 3 y ≡ contained (policyOf mem) (q .third) y
+    of-third y l = row-set 3 d y l (blank₃ y l)
 
 -- What is asked over an argument, with the rows of an index and with those of climbs.
 module _ (q : Request) (user e k : ℕ) (indexed : Bool) where

@@ -14,7 +14,7 @@ use Rattle.model.specs.Refusal.{Line, First, None, accepted, answer}
 use Rattle.model.specs.Request.{Request as Asks, Alternative, argumentsOf, kindsOf, alternativesOf, requestLines, indexedLines, grant, deny, verdict, decision, indexedDecision}
 use Rattle.model.specs.Index.{indexOf, bitAt}
 use Rattle.model.specs.Calls.{lent, decide, decideIndexed}
-use Rattle.model.specs.Decided.{Told, ClassOf, Satisfied, Lowest}
+use Rattle.model.specs.Decided.{ClassOf, Satisfied, Lowest}
 use Rattle.model.proofs.Contained.{within-says}
 use Rattle.model.proofs.Refusals.{first-refused, none-accepted, refused-first, accepted-none}
 use Rattle.model.proofs.Decisions.Decision.{grant-says, grant-when, deny-says, deny-when, unclassed-denied as no-class-denied}
@@ -26,6 +26,7 @@ use Rattle.request.specs.Asks.{requestOf}
 use Rattle.decide.specs.declared.Decision.{Decision}
 use Rattle.decide.specs.declared.Decision.the-variants.{Grant, Deny, Refused}
 use Rattle.decide.specs.Answers.{told}
+use Rattle.decide.specs.Results.{ByBits}
 use Rattle.decide.proofs.Answered.{one-decision}
 
 -- What a result that is told as an answer by lines is, by the verdict.
@@ -98,12 +99,6 @@ module _ (mem : List ℕ) (q : Request) (r : Decision) (e : told r ≡ decide (m
         no-class-denied (contained (policyOf mem)) (policyOf mem) (requestOf q) i
             (λ c k. h c (record { there = k .there; within = within-says (policyOf mem .assignments) (k .within) })),
       )
-
--- the result is what the rule says, with those bits read as containment: grant, deny and refusal, each exactly when
-pub record ByBits (idx : List ℕ) (lines : List Line) (p : Policy) (q : Asks) (r : Decision) : Type 0 where
-  pub grants : (k : ℕ) → (r ≡ Grant k) ↔ (None lines × Lowest (Told (bitAt idx)) p q k)
-  pub denies : (r ≡ Deny) ↔ (None lines × ((a : Alternative) → In a (alternativesOf q) → Satisfied (Told (bitAt idx)) p q a → ⊥))
-  pub refuses : (n : ℕ) → (r ≡ Refused n) ↔ First n lines
 
 -- The indexed decision, on any memory, any bytes and any request.
 module _ (mem idx : List ℕ) (q : Request) (r : Decision) (e : told r ≡ decideIndexed (memory mem) idx (requestOf q)) where

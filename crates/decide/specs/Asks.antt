@@ -3,7 +3,7 @@
 use mathlib.Core.Path.{_≡_}
 use mathlib.Core.Bool.{Bool, false, cond, _&&_}
 use mathlib.Core.List.{List}
-use Prim.Native.Nat.{ℕ, _+_, _*_, _≤_, _<_}
+use Prim.Native.Nat.{ℕ}
 use lib.ListN.{length, getD}
 use Rattle.model.specs.Lists.{allOf}
 use Rattle.model.specs.Policy.{Policy}
@@ -31,14 +31,13 @@ pub record AllRows (mem rows : List ℕ) (indexed : Bool) (q : Request) (user : 
   pub second : Rows mem rows indexed (askingOf q user indexed (q .second) 2 0)
   pub third : Rows mem rows indexed (askingOf q user indexed (q .third) 3 0)
 
--- rows of marks: the user's, then those of the three arguments; each mark is 0 or 1
+-- rows of bits: the user's, then those of the three arguments
 pub record Climbs (mem : List ℕ) (q : Request) (u : ℕ) (rows : List ℕ) : Type 0 where
-  pub size : length rows ≡ 2048
+  pub size : length rows ≡ 256
   pub user : (y : ℕ) → markAt rows 0 y ≡ contained (policyOf mem) u y
   pub first : (y : ℕ) → markAt rows 1 y ≡ contained (policyOf mem) (q .first) y
   pub second : (y : ℕ) → markAt rows 2 y ≡ contained (policyOf mem) (q .second) y
   pub third : (y : ℕ) → markAt rows 3 y ≡ contained (policyOf mem) (q .third) y
-  pub bit : (k y : ℕ) → k < 4 → y < 512 → getD rows (512 * k + y) 0 ≤ 1
 
 -- right r is held over the element that is asked about, and not restricted
 unfoldable pub permitsOver : (W : ℕ → ℕ → Bool) → Policy → Asking → (r : ℕ) → Bool

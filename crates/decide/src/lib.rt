@@ -66,7 +66,7 @@ pub fn with_right(q: Asking, r: u32) -> Asking
 }
 
 // Whether right r, if it is in the set, is held over the element and not restricted.
-pub fn is_allowed(mem: &[u32], rows: &[u8], indexed: bool, q: Asking, rights: u32, r: u32) -> bool
+fn is_allowed(mem: &[u32], rows: &[u8], indexed: bool, q: Asking, rights: u32, r: u32) -> bool
     requires { ⌜ Table (now mem) ⌝ }
     requires { ⌜ Rows (now mem) (now rows) indexed q ⌝ }
     requires { ⌜ r < 32 ⌝ }
@@ -165,18 +165,20 @@ pub fn choose(
     Decision::Deny
 }
 
-// Climbs from the user and from each argument: four rows of marks.
-pub fn climb_rows(mem: &[u32], q: Request, user: u32) -> [u8; 2048]
+// Climbs from the user and from each argument: four rows of bits.
+pub fn climb_rows(mem: &[u32], q: Request, user: u32) -> [u8; 256]
     requires { ⌜ Table (now mem) ⌝ }
     requires { ⌜ Accepted (now mem) q ⌝ }
     requires { ⌜ user < 512 ⌝ }
     ensures { λ r. ⌜ Climbs (now (mem .entry)) q user r ⌝ }
 {
-    let mut rows = [0u8; 2048];
-    climb::mark_row(mem, user, &mut rows, 0);
-    climb::mark_row(mem, q.first, &mut rows, 1);
-    climb::mark_row(mem, q.second, &mut rows, 2);
-    climb::mark_row(mem, q.third, &mut rows, 3);
+    let mut rows = [0u8; 256];
+    let mut seen = [0u8; 512];
+    let mut queue = [0u32; 512];
+    climb::mark_row(mem, user, &mut rows, 0, &mut seen, &mut queue);
+    climb::mark_row(mem, q.first, &mut rows, 1, &mut seen, &mut queue);
+    climb::mark_row(mem, q.second, &mut rows, 2, &mut seen, &mut queue);
+    climb::mark_row(mem, q.third, &mut rows, 3, &mut seen, &mut queue);
     rows
 }
 

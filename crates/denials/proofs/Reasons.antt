@@ -1,61 +1,92 @@
 -- Why a right is not permitted: each return.
 -- Assumes nothing.
 use mathlib.Core.Path.{_≡_, sym, ap, _∙_}
-use mathlib.Core.Bool.{false}
-use mathlib.Core.List.{List, [], _∷_}
+use mathlib.Core.Bool.{Bool, true, false, not}
+use mathlib.Core.List.{List}
 use Prim.Native.Nat.{ℕ}
-use borrow.Author.Tests.{eq-eqb, ne-eqb}
-use lib.ListN.{getD}
+use borrow.Author.Tests.{eq-eqb, ne-eqb, not-true, not-false}
 use Rattle.model.specs.Lists.{two}
-use Rattle.model.specs.Policy.{Policy}
+use Rattle.model.specs.Policy.{Policy, hasRight}
 use Rattle.model.specs.Contain.{contained}
+use Rattle.model.specs.Rule.{restrictedBy}
 use Rattle.table.specs.View.{policyOf}
+use Rattle.rule.specs.Sight.{seen}
 use Rattle.rule.specs.declared.Asking.{Asking}
-use Rattle.held.specs.Lacking.{lackBy, sight}
-use Rattle.decide.specs.Asks.{withRight}
-use Rattle.denials.specs.Causes.{lowestThrough, causeFor}
-use Rattle.denials.specs.Failing.{failingNumbers}
+use Rattle.held.specs.Lacking.{lackBy, sight, Rows}
+use Rattle.held.proofs.Sighted.{permits-lacking, permits-rest}
+use Rattle.decide.specs.Asks.{withRight, permitsOver}
+use Rattle.denials.specs.Causes.{lowestThrough, causeFor, whyNot, whyIn}
 
--- what lacks by rows of marks is what lacks by chains of assignments
-lacks-contained : (mem rows : List ℕ) (q : Asking) {n : ℕ} → n ≡ lackBy (sight mem rows false) (policyOf mem) (q .user) (q .right) (q .element)
-    → lackBy (contained (policyOf mem)) (policyOf mem) (q .user) (q .right) (q .element) ≡ n
-unfolding sight
-lacks-contained mem rows q e = sym e
-
--- The causes, from 1 up.
-module _ (mem rows : List ℕ) (q : Asking) {n : ℕ} (lacks : n ≡ lackBy (sight mem rows false) (policyOf mem) (q .user) (q .right) (q .element)) where
-  -- the right is not held
-  pub cause-lacking : (n ≡ 512 → ⊥) → two 1 n ≡ causeFor (policyOf mem) q
+-- A right that is held: the causes from 2 up.
+module _ (p : Policy) (q : Asking) (held : lackBy (contained p) p (q .user) (q .right) (q .element) ≡ 512) {u : ℕ} (by-user : u ≡ lowestThrough p q 1) where
+  -- it is restricted through the user
+  pub cause-user : (u ≡ 512 → ⊥) → two 2 u ≡ causeFor p q
   unfolding causeFor
-  cause-lacking d = rw (lacks-contained mem rows q lacks, ne-eqb n 512 d)
+  cause-user d = rw (held, ← by-user, ne-eqb u 512 d)
 
-  module _ (h : n ≡ 512) {u : ℕ} (by-user : u ≡ lowestThrough (policyOf mem) q 1) where
-    -- it is restricted through the user
-    pub cause-user : (u ≡ 512 → ⊥) → two 2 u ≡ causeFor (policyOf mem) q
+  module _ (i : u ≡ 512) {o : ℕ} (by-process : o ≡ lowestThrough p q 2) where
+    -- through the process
+    pub cause-process : (o ≡ 512 → ⊥) → two 3 o ≡ causeFor p q
     unfolding causeFor
-    cause-user d = rw (lacks-contained mem rows q lacks, eq-eqb n 512 h, ← by-user, ne-eqb u 512 d)
+    cause-process d = rw (held, ← by-user, eq-eqb u 512 i, ← by-process, ne-eqb o 512 d)
 
-    module _ (i : u ≡ 512) {p : ℕ} (by-process : p ≡ lowestThrough (policyOf mem) q 2) where
-      -- through the process
-      pub cause-process : (p ≡ 512 → ⊥) → two 3 p ≡ causeFor (policyOf mem) q
+    module _ (j : o ≡ 512) {a : ℕ} (by-attribute : a ≡ lowestThrough p q 3) where
+      -- through nothing
+      pub cause-nothing : a ≡ 512 → two 4 0 ≡ causeFor p q
       unfolding causeFor
-      cause-process d = rw (lacks-contained mem rows q lacks, eq-eqb n 512 h, ← by-user, eq-eqb u 512 i, ← by-process, ne-eqb p 512 d)
+      cause-nothing k = rw (held, ← by-user, eq-eqb u 512 i, ← by-process, eq-eqb o 512 j, ← by-attribute, eq-eqb a 512 k)
 
-      module _ (j : p ≡ 512) {a : ℕ} (by-attribute : a ≡ lowestThrough (policyOf mem) q 3) where
-        -- through nothing
-        pub cause-nothing : a ≡ 512 → two 4 0 ≡ causeFor (policyOf mem) q
-        unfolding causeFor
-        cause-nothing k =
-            rw (lacks-contained mem rows q lacks, eq-eqb n 512 h, ← by-user, eq-eqb u 512 i, ← by-process, eq-eqb p 512 j, ← by-attribute, eq-eqb a 512 k)
+      -- through an attribute
+      pub cause-attribute : (a ≡ 512 → ⊥) → two 4 a ≡ causeFor p q
+      unfolding causeFor
+      cause-attribute d = rw (held, ← by-user, eq-eqb u 512 i, ← by-process, eq-eqb o 512 j, ← by-attribute, ne-eqb a 512 d)
 
-        -- through an attribute
-        pub cause-attribute : (a ≡ 512 → ⊥) → two 4 a ≡ causeFor (policyOf mem) q
-        unfolding causeFor
-        cause-attribute d =
-            rw (lacks-contained mem rows q lacks, eq-eqb n 512 h, ← by-user, eq-eqb u 512 i, ← by-process, eq-eqb p 512 j, ← by-attribute, ne-eqb a 512 d)
+-- Whether it is held, then whether it is restricted.
+module _ (mem rows : List ℕ) (q : Asking) {n : ℕ} (lacks : n ≡ lackBy (sight mem rows false) (policyOf mem) (q .user) (q .right) (q .element)) where
+  -- what lacks by rows of marks is what lacks by chains of assignments
+  lacks-contained : lackBy (contained (policyOf mem)) (policyOf mem) (q .user) (q .right) (q .element) ≡ n
+  unfolding sight
+  lacks-contained = sym lacks
 
--- the row of a right that is not permitted
-pub row-of : (p : Policy) (q : Asking) (r alternative k : ℕ) {a : Asking} → a ≡ withRight q r → {why : List ℕ} → why ≡ causeFor p a
-    → (alternative ∷ k ∷ r ∷ getD why 0 0 ∷ getD why 1 0 ∷ 0 ∷ 0 ∷ 0 ∷ []) ≡ failingNumbers p (withRight q r) alternative k
-unfolding failingNumbers
-row-of p q r alternative k e f = rw (f ∙ ap (causeFor p) e)
+  -- it is not held
+  pub why-lacking : (n ≡ 512 → ⊥) → two 1 n ≡ whyNot (policyOf mem) q
+  unfolding whyNot permitsOver causeFor
+  why-lacking d = rw (
+    ← permits-lacking (contained (policyOf mem)) mem (q .process) (q .user) (q .right) (q .element) (sym lacks-contained) d,
+    lacks-contained,
+    ne-eqb n 512 d,
+  )
+
+  module _ (held : n ≡ 512) where
+    -- it is held, by chains of assignments too
+    pub lacks-nothing : lackBy (contained (policyOf mem)) (policyOf mem) (q .user) (q .right) (q .element) ≡ 512
+    lacks-nothing = lacks-contained ∙ held
+
+    module _ (w : Rows mem rows false q) {b : Bool}
+        (is : b ≡ restrictedBy (seen rows false (q .by)) (seen rows false (q .over)) (policyOf mem) (q .process) (q .user) (q .right) (q .element)) where
+      -- it is permitted unless it is restricted
+      permitted-as : permitsOver (contained (policyOf mem)) (policyOf mem) q (q .right) ≡ not b
+      unfolding permitsOver sight
+      permitted-as = sym (permits-rest mem rows false q w lacks held is)
+
+      -- it is not restricted
+      pub why-free : not b ≡ true → two 0 0 ≡ whyNot (policyOf mem) q
+      unfolding whyNot
+      why-free h = rw (permitted-as, h)
+
+      -- it is restricted
+      pub why-restricted : not b ≡ false → {why : List ℕ} → why ≡ causeFor (policyOf mem) q → why ≡ whyNot (policyOf mem) q
+      unfolding whyNot
+      why-restricted h e = rw (permitted-as, h) e
+
+-- A right that is in the set or not.
+module _ (p : Policy) (q : Asking) (rights r : ℕ) {b : Bool} (e : b ≡ hasRight rights r) where
+  -- it is not in the set
+  pub why-unasked : not b ≡ true → two 0 0 ≡ whyIn p q rights r
+  unfolding whyIn
+  why-unasked h = rw (sym e ∙ not-true b h)
+
+  -- it is in the set
+  pub why-asked : not b ≡ false → {a : Asking} → a ≡ withRight q r → {why : List ℕ} → why ≡ whyNot p a → why ≡ whyIn p q rights r
+  unfolding whyIn
+  why-asked h i f = rw (sym e ∙ not-false b h) (f ∙ ap (whyNot p) i)

@@ -5,12 +5,13 @@ use mathlib.Core.List.{List}
 use Prim.Native.Nat.{ℕ}
 use lib.Dec.{eqb, ltb}
 use Rattle.model.specs.Lists.{leastOf, two}
-use Rattle.model.specs.Policy.{Prohibition, Policy, by-user, by-process, by-attribute}
+use Rattle.model.specs.Policy.{Prohibition, Policy, by-user, by-process, by-attribute, hasRight}
 use Rattle.model.specs.Contain.{contained}
 use Rattle.model.specs.Rule.{restricts, through}
 use Rattle.model.specs.Explain.{not-held, through-user, through-process, through-attribute}
 use Rattle.rule.specs.declared.Asking.{Asking}
 use Rattle.held.specs.Lacking.{lackBy}
+use Rattle.decide.specs.Asks.{withRight, permitsOver}
 
 -- the subjects of one sort through which the right is restricted
 abbrev pub subjectsThrough : Policy → Asking → (sort : ℕ) → List ℕ
@@ -37,3 +38,11 @@ causeFor p q =
     (cond (not (eqb (lowestThrough p q by-user) 512)) (two through-user (lowestThrough p q by-user))
     (cond (not (eqb (lowestThrough p q by-process) 512)) (two through-process (lowestThrough p q by-process))
     (two through-attribute (cond (eqb (lowestThrough p q by-attribute) 512) 0 (lowestThrough p q by-attribute)))))
+
+-- the cause and its number for which the right is not permitted, zeros where it is
+unfoldable pub whyNot : Policy → Asking → List ℕ
+whyNot p q = cond (permitsOver (contained p) p q (q .right)) (two 0 0) (causeFor p q)
+
+-- the same of right r, if it is in the set; zeros where it is not
+unfoldable pub whyIn : Policy → Asking → (rights r : ℕ) → List ℕ
+whyIn p q rights r = cond (hasRight rights r) (whyNot p (withRight q r)) (two 0 0)

@@ -27,6 +27,12 @@ firstFailingRight p q rights = firstOr32 (those (λ r. not (permitsOver (contain
 unfoldable pub failingNumbers : Policy → Asking → (alternative k : ℕ) → List ℕ
 failingNumbers p q alternative k = alternative ∷ k ∷ q .right ∷ getD (causeFor p q) 0 0 ∷ getD (causeFor p q) 1 0 ∷ 0 ∷ 0 ∷ 0 ∷ []
 
+-- the row of the first right of a set that is not permitted, zeros where each is
+unfoldable pub failingRow : Policy → Asking → (rights alternative k : ℕ) → List ℕ
+failingRow p q rights alternative k =
+    let r = firstFailingRight p q rights in
+    cond (ltb r 32) (failingNumbers p (withRight q r) alternative k) (0 ∷ 0 ∷ 0 ∷ 0 ∷ 0 ∷ 0 ∷ 0 ∷ 0 ∷ [])
+
 -- the row of an alternative: the first argument over which some right of its set is not permitted
 unfoldable pub denyNumbers : Policy → Request → (user alternative : ℕ) (sets : List ℕ) → List ℕ
 denyNumbers p q user alternative sets =

@@ -7,10 +7,10 @@ ghost use Rattle.table.specs.Layout.{prohibitionCount};
 ghost use Rattle.table.specs.View.{policyOf, prohibitionAt};
 ghost use Rattle.table.specs.Facts.{Table};
 ghost use Rattle.model.specs.Contain.{contained};
-ghost use Rattle.held.specs.Lacking.{Rows};
-ghost use Rattle.decide.specs.Asks.{withRight, AllRows, satisfies};
-ghost use Rattle.denials.specs.Causes.{lowerSubject, lowestThrough, causeFor};
-ghost use Rattle.denials.specs.Failing.{firstFailingRight, failingNumbers, denyNumbers};
+ghost use Rattle.held.specs.Lacking.{lackBy, Rows};
+ghost use Rattle.decide.specs.Asks.{AllRows, satisfies};
+ghost use Rattle.denials.specs.Causes.{lowerSubject, lowestThrough, causeFor, whyNot, whyIn};
+ghost use Rattle.denials.specs.Failing.{failingRow, denyNumbers};
 use request::Request;
 use rule::Asking;
 
@@ -55,17 +55,14 @@ fn lowest_subject(mem: &[u32], rows: &[u8], q: Asking, sort: u32) -> u32
     subject
 }
 
-// The cause for which a right is not permitted, and its number: the causes are tried from 1 up.
-fn cause(mem: &[u32], rows: &[u8], q: Asking) -> [u32; 2]
+// Why a right that is held is not permitted: the causes are tried from 2 up.
+fn restriction(mem: &[u32], rows: &[u8], q: Asking) -> [u32; 2]
     requires { ⌜ Table (now mem) ⌝ }
     requires { ⌜ Rows (now mem) (now rows) false q ⌝ }
     requires { ⌜ q .right < 32 ⌝ }
+    requires { ⌜ lackBy (contained (policyOf (now mem))) (policyOf (now mem)) (q .user) (q .right) (q .element) ≡ 512 ⌝ }
     ensures { λ r. ⌜ r ≡ causeFor (policyOf (now (mem .entry))) q ⌝ }
 {
-    let lacks = held::lack(mem, rows, false, q);
-    if lacks != held::HELD {
-        return [1, lacks];
-    }
     let user = lowest_subject(mem, rows, q, 1);
     if user != NONE {
         return [2, user];
@@ -81,36 +78,64 @@ fn cause(mem: &[u32], rows: &[u8], q: Asking) -> [u32; 2]
     [4, attribute]
 }
 
-// The first right of a set that is not permitted over the element, 32 where each is. The rights are asked from 0 up until none is left.
-fn first_failing(mem: &[u32], rows: &[u8], q: Asking, rights: u32) -> u32
+// Why the right is not permitted: the cause and its number, the causes tried from 1 up; 0 and 0 where it is permitted.
+fn why(mem: &[u32], rows: &[u8], q: Asking) -> [u32; 2]
     requires { ⌜ Table (now mem) ⌝ }
     requires { ⌜ Rows (now mem) (now rows) false q ⌝ }
-    ensures { λ r. ⌜ r ≡ firstFailingRight (policyOf (now (mem .entry))) q rights ⌝ }
+    requires { ⌜ q .right < 32 ⌝ }
+    ensures { λ r. ⌜ r ≡ whyNot (policyOf (now (mem .entry))) q ⌝ }
+{
+    let lacks = held::lack(mem, rows, false, q);
+    if lacks != held::HELD {
+        return [1, lacks];
+    }
+    if !rule::is_restricted(mem, rows, false, q) {
+        return [0, 0];
+    }
+    restriction(mem, rows, q)
+}
+
+// The same of right r, if it is in the set; 0 and 0 where it is not in it.
+fn why_in(mem: &[u32], rows: &[u8], q: Asking, rights: u32, r: u32) -> [u32; 2]
+    requires { ⌜ Table (now mem) ⌝ }
+    requires { ⌜ Rows (now mem) (now rows) false q ⌝ }
+    requires { ⌜ r < 32 ⌝ }
+    ensures { λ s. ⌜ s ≡ whyIn (policyOf (now (mem .entry))) q rights r ⌝ }
+{
+    if !rule::has_right(rights, r) {
+        return [0, 0];
+    }
+    why(mem, rows, decide::with_right(q, r))
+}
+
+// The row that says why the first right of a set that is not permitted is not, over the argument at position k; zeros where each is permitted.
+// The rights are asked from 0 up until none is left.
+fn failing_row(
+    mem: &[u32],
+    rows: &[u8],
+    q: Asking,
+    rights: u32,
+    alternative: u32,
+    k: u32,
+) -> [u32; 8]
+    requires { ⌜ Table (now mem) ⌝ }
+    requires { ⌜ Rows (now mem) (now rows) false q ⌝ }
+    ensures { λ s. ⌜ s ≡ failingRow (policyOf (now (mem .entry))) q rights alternative k ⌝ }
 {
     let mut left = rights;
     let mut r = 0;
     while 0 < left {
-        if !decide::is_allowed(mem, rows, false, q, rights, r) {
-            return r;
+        let why = why_in(mem, rows, q, rights, r);
+        if 0 < why[0] {
+            return [alternative, k, r, why[0], why[1], 0, 0, 0];
         }
         left = left / 2;
         r += 1;
     }
-    32
+    [0, 0, 0, 0, 0, 0, 0, 0]
 }
 
-// The row that says why right r is not permitted over the argument at position k.
-fn failing_row(mem: &[u32], rows: &[u8], q: Asking, r: u32, alternative: u32, k: u32) -> [u32; 8]
-    requires { ⌜ Table (now mem) ⌝ }
-    requires { ⌜ Rows (now mem) (now rows) false q ⌝ }
-    requires { ⌜ r < 32 ⌝ }
-    ensures { λ s. ⌜ s ≡ failingNumbers (policyOf (now (mem .entry))) (withRight q r) alternative k ⌝ }
-{
-    let why = cause(mem, rows, decide::with_right(q, r));
-    [alternative, k, r, why[0], why[1], 0, 0, 0]
-}
-
-// The row of an alternative that is not satisfied: its first failing argument and right, a cause and a number.
+// The row of an alternative that is not satisfied: its first failing argument and right, a cause and a number. It is the first row that has a cause.
 pub fn deny_row(
     mem: &[u32],
     rows: &[u8],
@@ -125,16 +150,15 @@ pub fn deny_row(
     ensures { λ r. ⌜ r ≡ denyNumbers (policyOf (now (mem .entry))) q user alternative sets ⌝ }
 {
     let first = decide::asking(q, user, false, q.first, 1);
-    let r = first_failing(mem, rows, first, sets[0]);
-    if r < 32 {
-        return failing_row(mem, rows, first, r, alternative, 1);
+    let r = failing_row(mem, rows, first, sets[0], alternative, 1);
+    if 0 < r[3] {
+        return r;
     }
     let second = decide::asking(q, user, false, q.second, 2);
-    let s = first_failing(mem, rows, second, sets[1]);
-    if s < 32 {
-        return failing_row(mem, rows, second, s, alternative, 2);
+    let s = failing_row(mem, rows, second, sets[1], alternative, 2);
+    if 0 < s[3] {
+        return s;
     }
     let third = decide::asking(q, user, false, q.third, 3);
-    let t = first_failing(mem, rows, third, sets[2]);
-    failing_row(mem, rows, third, t, alternative, 3)
+    failing_row(mem, rows, third, sets[2], alternative, 3)
 }

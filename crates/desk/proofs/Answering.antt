@@ -31,11 +31,13 @@ use Rattle.explain.specs.declared.Explanation.{Explanation}
 use Rattle.explain.specs.declared.Explanation.the-variants.{Deny}
 use Rattle.explain.specs.Answers.{told as explains, Left, left as leftNumbers, explaining}
 use Rattle.explain.proofs.Answered.{one-explanation}
-use Rattle.explain.proofs.Theorems.{firstWhy, first-deny-row}
+use Rattle.explain.specs.Results.{firstWhy}
+use Rattle.explain.proofs.Theorems.{first-deny-row}
 use Rattle.lines.specs.Typing.{Typed}
 use Rattle.desk.specs.declared.Printed.the-variants.{Length, Refused}
+use Rattle.desk.specs.Allows as allows
 use Rattle.desk.proofs.Front.{in-front}
-use Rattle.desk.specs.Printing.{firstLine, answering, told, left}
+use Rattle.desk.specs.Printing.{firstLine, answering, told}
 
 -- two lent rows suffice for a deny, so that its explanation is a deny
 pub deny-explained : {mem : List ℕ} {q : Request} → Table mem → Accepted mem q → verdict (contained (policyOf mem)) (policyOf mem) (requestOf q) ≡ deny
@@ -111,26 +113,26 @@ denied-verdict q t h e = sym (denied-none q t h e .1)
 -- The call that answers a request, on any memory, any bytes and any room.
 module _ (mem s out : List ℕ) where
   -- the memory holds no table
-  pub no-table : {t : Bool} → t ≡ holdsTable mem → not t ≡ true → left (Refused 1) out ≡ answering mem s out
+  pub no-table : {t : Bool} → t ≡ holdsTable mem → not t ≡ true → allows.answer mem s out (Refused 1) out
   unfolding answering told answer kept
   no-table {t} e f = let n : holdsTable mem ≡ false = sym e ∙ not-true t f in rw n
 
   module _ {t : Bool} (e : t ≡ holdsTable mem) (f : not t ≡ false) where
     -- the lent bytes are too few
-    pub no-room : length out < 64 → left (Refused 10) out ≡ answering mem s out
+    pub no-room : length out < 64 → allows.answer mem s out (Refused 10) out
     unfolding answering told answer kept
     no-room h = let k : holdsTable mem ≡ true = sym e ∙ not-false t f in rw (k, lt-ltb (length out) 64 h)
 
     module _ (h : 64 ≤ length out) where
       -- the line stands in front of the other bytes
-      line-printed : {out′ : List ℕ} {n : ℕ} → Typed (firstLine (policyOf mem) s) 0 out out′ n → left (Length n) out′ ≡ answering mem s out
+      line-printed : {out′ : List ℕ} {n : ℕ} → Typed (firstLine (policyOf mem) s) 0 out out′ n → allows.answer mem s out (Length n) out′
       unfolding answering told answer kept
       line-printed w =
           let k : holdsTable mem ≡ true = sym e ∙ not-false t f in
           rw (k, le-ltb (length out) 64 h, in-front w .0, in-front w .1)
 
       -- there is no request
-      pub none-printed : length s ≡ 0 → left (Length 0) out ≡ answering mem s out
+      pub none-printed : length s ≡ 0 → allows.answer mem s out (Length 0) out
       unfolding answering told answer kept firstLine
       none-printed z =
           let k : holdsTable mem ≡ true = sym e ∙ not-false t f in
@@ -138,12 +140,12 @@ module _ (mem s out : List ℕ) where
 
       module _ (some : length s ≡ 0 → ⊥) where
         -- "a last request cut short is `R 12`"
-        pub cut-printed : length s < 5 → {out′ : List ℕ} {n : ℕ} → Typed (line 82 (12 ∷ [])) 0 out out′ n → left (Length n) out′ ≡ answering mem s out
+        pub cut-printed : length s < 5 → {out′ : List ℕ} {n : ℕ} → Typed (line 82 (12 ∷ [])) 0 out out′ n → allows.answer mem s out (Length n) out′
         unfolding firstLine
         cut-printed l w = line-printed (rw (ne-eqb (length s) 0 some, lt-ltb (length s) 5 l) w)
 
         -- the line of a request that is not cut
         pub request-printed : 5 ≤ length s → {out′ : List ℕ} {n : ℕ} → Typed (requestLine (policyOf mem) (bitsOf (take 5 s))) 0 out out′ n
-            → left (Length n) out′ ≡ answering mem s out
+            → allows.answer mem s out (Length n) out′
         unfolding firstLine
         request-printed l w = line-printed (rw (ne-eqb (length s) 0 some, le-ltb (length s) 5 l) w)

@@ -6,4 +6,5 @@ pub mod Lengths
 pub mod Requests
 pub mod Outputs
 pub mod Apart
+pub mod Results
 pub mod Theorems

@@ -1,7 +1,7 @@
 -- What is read of the input: the forty bits of a request, and the length of the image.
 -- Assumes nothing.
 use mathlib.Core.Path.{_≡_, refl, sym, _∙_}
-use mathlib.Core.Bool.{Bool, true, false}
+use mathlib.Core.Bool.{Bool, true, false, cond}
 use mathlib.Core.List.{List}
 use Prim.Native.Nat.{ℕ, _+_, _≤_, _<_}
 use native.Mathlib.Omega.{arith}
@@ -13,7 +13,7 @@ use Rattle.model.specs.Bits.{bitsOf}
 use Rattle.model.specs.Desk.{requestIn}
 use Rattle.model.proofs.Truth.{clash}
 use Rattle.bits.specs.Cursor.{Taken}
-use Rattle.desk.specs.Printing.{imageLength, isShort}
+use Rattle.desk.specs.Printing.{imageLength, isShort, wantedBytes}
 
 -- "process 8, operation 4, arguments 9, 9, 9": five numbers taken one behind another are the request
 pub request-read : {s : List ℕ} {process operation first second third a b c d e : ℕ}
@@ -23,15 +23,24 @@ unfolding requestIn
 request-read p o x y z =
     rw (p .value-is, o .value-is, x .value-is, y .value-is, z .value-is, y .next-is, x .next-is, o .next-is, p .next-is)
 
--- bytes too few for the length are too few
-pub no-length : (s : List ℕ) → length s < 2 → true ≡ isShort s
-unfolding isShort
+-- where the length is not there, two bytes are wanted
+pub no-length : (s : List ℕ) → length s < 2 → 2 ≡ wantedBytes s
+unfolding wantedBytes
 no-length s h = rw (lt-ltb (length s) 2 h)
 
--- where the length is there, the bytes are too few exactly if the image is not whole
-pub by-length : (s : List ℕ) {n : ℕ} → 2 ≤ length s → n ≡ imageLength s → ltb (length s) (2 + n) ≡ isShort s
-unfolding isShort
+-- where it is there, the image is wanted too
+pub by-length : (s : List ℕ) {n : ℕ} → 2 ≤ length s → n ≡ imageLength s → 2 + n ≡ wantedBytes s
+unfolding wantedBytes
 by-length s h e = rw (le-ltb (length s) 2 h, e)
+
+-- bytes are too few for the length or the image exactly if they are fewer than are wanted
+pub short-wanted : (s : List ℕ) → isShort s ≡ ltb (length s) (wantedBytes s)
+unfolding isShort wantedBytes
+short-wanted s = go (ltb (length s) 2) refl
+  where
+    go : (b : Bool) → ltb (length s) 2 ≡ b → cond b true (ltb (length s) (2 + imageLength s)) ≡ ltb (length s) (cond b 2 (2 + imageLength s))
+    go true e = sym e
+    go false e = refl
 
 -- bytes that are not too few have the length and the image
 pub enough : (s : List ℕ) → isShort s ≡ false → (2 ≤ length s) × (2 + imageLength s ≤ length s)
@@ -43,10 +52,9 @@ enough s e = elim (decLt (length s) 2) [
       (h, ltb-false (length s) (2 + imageLength s) (rw (le-ltb (length s) 2 h) at e))
 ]
 
--- so the length can be read
-pub length-there : (s : List ℕ) {t : Bool} → t ≡ isShort s → t ≡ false → 2 ≤ length s
-length-there s i f = enough s (sym i ∙ f) .0
-
--- and the image can be taken
-pub image-there : (s : List ℕ) {t : Bool} {n : ℕ} → t ≡ isShort s → t ≡ false → n ≡ imageLength s → 2 + n ≤ length s
-image-there s i f e = rw e (enough s (sym i ∙ f) .1)
+-- as many bytes as are wanted have the length and the image
+pub wanted-there : (s : List ℕ) {n : ℕ} → n ≡ wantedBytes s → n ≤ length s → (isShort s ≡ false) × (n ≡ 2 + imageLength s)
+unfolding wantedBytes
+wanted-there s {n} e h =
+    let f : isShort s ≡ false = short-wanted s ∙ rw (sym e) (le-ltb (length s) n h) in
+    (f, rw (le-ltb (length s) 2 (enough s f .0)) at e)

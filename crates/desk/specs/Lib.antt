@@ -1,2 +1,4 @@
 pub mod Printing
+pub mod Allows
 pub mod Running
+pub mod Claims

@@ -57,6 +57,10 @@ imageLength s = 256 * getD s 0 0 + getD s 1 0
 unfoldable pub isShort : List ℕ → Bool
 isShort s = cond (ltb (length s) 2) true (ltb (length s) (2 + imageLength s))
 
+-- how many bytes the length and the image are: two where the length is not there, else two and as many as they say
+unfoldable pub wantedBytes : List ℕ → ℕ
+wantedBytes s = cond (ltb (length s) 2) 2 (2 + imageLength s)
+
 -- the image: "too few bytes for length or image is `L 12`, of any form"
 unfoldable pub imageAnswer : (s words : List ℕ) → Answer (List ℕ)
 imageAnswer s words = cond (isShort s) (refused 12) (loadTable (take (imageLength s) (drop 2 s)) words .answers)

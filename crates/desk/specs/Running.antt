@@ -12,7 +12,7 @@ use Rattle.table.specs.View.{holdsTable, policyOf}
 use Rattle.desk.specs.declared.Printed.the-variants.{Length}
 use Rattle.desk.specs.declared.Opened.{Opened}
 use Rattle.desk.specs.declared.Opened.the-variants.{Open, Closed}
-use Rattle.desk.specs.Printing.{answering, left}
+use Rattle.desk.specs.Allows as allows
 
 -- What a call is lent of the bytes s: the bytes at hand, which are the first of s, with `more` behind them. They suffice for the call, or nothing is
 -- behind them.
@@ -25,7 +25,7 @@ pub record AtHand (suffice : Bool) (hand more s : List ℕ) : Type 0 where
 pub data Lines (words : List ℕ) : (s text : List ℕ) → Type 0 where
   none : Lines words [] []
   then : {hand more s : List ℕ} → AtHand (leb 5 (length hand)) hand more s
-      → (room bytes : List ℕ) (n : ℕ) → left (Length n) bytes ≡ answering words hand room
+      → (room bytes : List ℕ) (n : ℕ) → allows.answer words hand room (Length n) bytes
       → {text : List ℕ} → Lines words (drop 5 s) text → Lines words s (take n bytes ++ text)
 
 -- What the result of `begin`, the words and the bytes that it leaves, are to the output for the input s: all that is printed; or words that hold a

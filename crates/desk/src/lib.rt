@@ -1,5 +1,5 @@
-// The desk: what the desk program prints, as functions from input bytes to output bytes. One call reads the image and prints the first line; one
-// answers a request and prints its line.
+// The desk: what the desk program prints, as functions from input bytes to output bytes. One call tells how many bytes the length and the image are;
+// one reads the image and prints the first line; one answers a request and prints its line.
 use bits::Cursor;
 use decide::Decision;
 use request::Request;
@@ -16,7 +16,8 @@ ghost use Rattle.table.specs.View.{policyOf};
 ghost use Rattle.table.specs.Facts.{Table};
 ghost use Rattle.request.specs.Asks.{requestOf, Accepted};
 ghost use Rattle.lines.specs.Typing.{Typed};
-ghost use Rattle.desk.specs.Printing.{answering, left, imageLength, isShort, beginning, leftBegun};
+ghost use Rattle.desk.specs.Printing.{imageLength};
+ghost use Rattle.desk.specs.Allows as allows;
 
 // A line needs no more bytes.
 pub const LINE: usize = 64;
@@ -110,7 +111,7 @@ fn put_answer(mem: &[u32], s: &[u8], out: &mut [u8]) -> usize
 
 // Answers the first request among the bytes: prints its line in front of the lent bytes, which must be at least 64.
 pub fn answer(mem: &[u32], s: &[u8], out: &mut [u8]) -> Printed
-    ensures { λ r. ⌜ left r (now (out .exit)) ≡ answering (now (mem .entry)) (now (s .entry)) (now (out .entry)) ⌝ }
+    ensures { λ r. ⌜ allows.answer (now (mem .entry)) (now (s .entry)) (now (out .entry)) r (now (out .exit)) ⌝ }
 {
     if !table::holds(mem) {
         return Printed::Refused(1);
@@ -162,19 +163,19 @@ fn image_length(s: &[u8]) -> usize
     256 * wide(s[0]) + wide(s[1])
 }
 
-// Whether the bytes are too few for the length or the image.
-fn is_short(s: &[u8]) -> bool
-    ensures { λ r. ⌜ r ≡ isShort (now (s .entry)) ⌝ }
+// How many bytes the length and the image are, as the first bytes of the input say: two where the length is not there.
+pub fn wanted(s: &[u8]) -> usize
+    ensures { λ r. ⌜ allows.wanted (now (s .entry)) r ⌝ }
 {
     if s.len() < HEAD {
-        return true;
+        return HEAD;
     }
-    s.len() < HEAD + image_length(s)
+    HEAD + image_length(s)
 }
 
 // Begins: reads the length and the image into the memory, and prints the first line in front of the lent bytes, which must be at least 64.
 pub fn begin(mem: &mut [u32], s: &[u8], out: &mut [u8]) -> Opened
-    ensures { λ r. ⌜ leftBegun r (now (mem .exit)) (now (out .exit)) ≡ beginning (now (s .entry)) (now (mem .entry)) (now (out .entry)) ⌝ }
+    ensures { λ r. ⌜ allows.begin (now (mem .entry)) (now (s .entry)) (now (out .entry)) r (now (mem .exit)) (now (out .exit)) ⌝ }
 {
     if mem.len() != table::WORDS {
         return Opened::Refused(1);
@@ -182,10 +183,10 @@ pub fn begin(mem: &mut [u32], s: &[u8], out: &mut [u8]) -> Opened
     if out.len() < LINE {
         return Opened::Refused(10);
     }
-    if is_short(s) {
+    let start = wanted(s);
+    if s.len() < start {
         return Opened::Closed(lines::put_line(out, REFUSED_IMAGE, &[12]));
     }
-    let start = HEAD + image_length(s);
     let outcome = policy::load(mem, &s[HEAD..start]);
     match outcome {
         Outcome::Done => Opened::Open(put_counts(mem, out), start),

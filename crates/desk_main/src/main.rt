@@ -5,7 +5,7 @@ use desk::Printed;
 use libc::STDIN_FILENO;
 use libc::STDOUT_FILENO;
 ghost use mathlib.Core.Path.{_≡_};
-ghost use Prim.Native.Nat.{_≤_, _<_};
+ghost use Prim.Native.Nat.{_≤_};
 ghost use lib.ListN.{length};
 
 // Bytes of a piece: 819 requests.
@@ -18,21 +18,6 @@ fn lesser(a: usize, b: usize) -> usize
     if a < b { a } else { b }
 }
 
-// A byte as a number.
-fn wide(b: u8) -> usize
-    ensures { λ r. ⌜ r < 256 ⌝ }
-{
-    b as usize
-}
-
-// How many bytes the image has, as the two bytes before it say.
-fn image_length(input: &[u8]) -> usize
-    requires { ⌜ 2 ≤ length (now input) ⌝ }
-    ensures { λ r. ⌜ r < 65536 ⌝ }
-{
-    256 * wide(input[0]) + wide(input[1])
-}
-
 // Reads the length and the image, no byte beyond. Returns how many bytes there were.
 fn read_image(input: &mut [u8]) -> usize
     requires { ⌜ length (now input) ≡ 65537 ⌝ }
@@ -42,7 +27,7 @@ fn read_image(input: &mut [u8]) -> usize
     if n < 2 {
         return lesser(n, 2);
     }
-    let end = 2 + image_length(input);
+    let end = desk::wanted(input);
     let m = io::read_full(STDIN_FILENO, &mut input[2..end]);
     2 + lesser(m, 65535)
 }

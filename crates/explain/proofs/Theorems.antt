@@ -3,21 +3,17 @@
 use mathlib.Core.Path.{_≡_, refl, sym, ap, _∙_}
 use mathlib.Core.Bool.{Bool, true}
 use mathlib.Core.List.{List, [], _∷_, _++_, map}
-use mathlib.Core.Logic.{_↔_}
-use Prim.Native.Nat.{ℕ, _+_, _≤_, _<_}
+use Prim.Native.Nat.{ℕ, _≤_, _<_}
 use native.Mathlib.Omega.{arith}
 use borrow.Author.Tests.{ltb-true, not-false}
-use lib.ListN.{length, getD, take, drop}
+use lib.ListN.{length, drop}
 use lib.Seq.{take-append-seam, drop-append-seam}
-use Rattle.model.specs.Lists.{In, rising}
 use Rattle.model.specs.Policy.{Policy}
 use Rattle.model.specs.Contain.{contained}
 use Rattle.model.specs.Refusal.{First, now, next, None, end, past, refused, accepted}
 use Rattle.model.specs.Request.{Request as Asks, alternativesOf, requestLines, grant, deny, Verdict, verdict, decision}
 use Rattle.model.specs.Explain.{Row, denyRow, Explained, explainLines, rows, explanation}
 use Rattle.model.specs.Calls.{decide, kept, over}
-use Rattle.model.specs.Decided.{Told, Lowest}
-use Rattle.model.specs.RowRule.{rowPlace, GrantRowOf, LowestNamed, DenyRowOf, Why}
 use Rattle.model.specs.Desk.{denyLine, line, D}
 use Rattle.model.proofs.Refusals.{none-accepted, refused-first, accepted-none}
 use Rattle.model.proofs.Decisions.Decision.{grant-says}
@@ -37,6 +33,7 @@ use Rattle.decide.specs.declared.Decision.the-variants.{Grant as Grants, Deny a
 use Rattle.decide.specs.Answers.{told as tells}
 use Rattle.explain.specs.declared.Explanation.{Explanation}
 use Rattle.explain.specs.declared.Explanation.the-variants.{Grant, Deny, Refused}
+use Rattle.explain.specs.Results.{firstWhy, AsDecided, Written, RowsExact, GrantRows, DenyRows}
 use Rattle.explain.specs.Answers.{told, numbersOf, Left, left, numbers, explaining}
 use Rattle.explain.proofs.Filled.{numbers-length}
 use Rattle.explain.proofs.Answered.{one-explanation, one-left}
@@ -44,46 +41,6 @@ use Rattle.explain.proofs.Answered.{one-explanation, one-left}
 -- the explanation's contract allows one result: two results that are told the same and leave the same rows are the same
 pub unique : {r s : Explanation} {l m : List (List ℕ)} → left r l ≡ left s m → (r ≡ s) × (l ≡ m)
 unique = one-left
-
--- the explanation r answers as the decision d does, where `room` rows are lent and `count` are needed: refused alike, granted by the same
--- alternative and denied alike, with the number of rows; and 10 exactly if the decision is no refusal and the lent rows are too few
-pub record AsDecided (d : Decision) (room count : ℕ) (r : Explanation) : Type 0 where
-  pub refuses : (n : ℕ) → d ≡ Refuses n → r ≡ Refused n
-  pub grants : (k : ℕ) → d ≡ Grants k → count ≤ room → r ≡ Grant k count
-  pub denies : d ≡ Denies → count ≤ room → r ≡ Deny count
-  pub too-few : (r ≡ Refused 10) ↔ (((n : ℕ) → d ≡ Refuses n → ⊥) × (room < count))
-
--- the lent rows afterwards: the first n are the rows that are written, the others are as they were
-pub record Written (written room out : List (List ℕ)) (n : ℕ) : Type 0 where
-  pub count : n ≡ length written
-  pub first : take n out ≡ written
-  pub others : drop n out ≡ drop n room
-
--- where r is accepted its rows are written and the others are as they were; where it is refused all rows are as they were
-pub record RowsExact (r : Explanation) (written room out : List (List ℕ)) : Type 0 where
-  pub granted : (k n : ℕ) → r ≡ Grant k n → Written written room out n
-  pub denied : (n : ℕ) → r ≡ Deny n → Written written room out n
-  pub refused : (n : ℕ) → r ≡ Refused n → out ≡ room
-
-module _ (p : Policy) (q : Asks) where
-  -- "Grant: one row for each argument, right and containing class, all rising, with the lowest authorizing association": the rows of
-  -- alternative k, the lowest that allows the request
-  pub record GrantRows (k : ℕ) : Type 0 where
-    pub lowest : Lowest (Told (contained p)) p q k
-    pub says : (row : Row) → In row (rows (contained p) p q) → GrantRowOf (contained p) p q k (lowest .it) row
-    pub have : (row : Row) → GrantRowOf (contained p) p q k (lowest .it) row → In row (rows (contained p) p q)
-    pub named : (row : Row) (g : GrantRowOf (contained p) p q k (lowest .it) row) → LowestNamed (contained p) p q (g .it) (g .its-class) row
-    pub rise : rising rowPlace (rows (contained p) p q) ≡ true
-
-  -- the row at i is that of alternative i + 1: its first failing argument and right, and why that right is not permitted
-  pub record DenyRowAt (i : ℕ) (row : Row) : Type 0 where
-    pub its : DenyRowOf (contained p) p q (i + 1) (getD (alternativesOf q) i []) row
-    pub why : Why (contained p) p q (its .first .it) (row .cause) (row .number)
-
-  -- "Deny: one row for each alternative, with its first failing argument and right, a cause and a number"
-  pub record DenyRows : Type 0 where
-    pub count : length (rows (contained p) p q) ≡ length (alternativesOf q)
-    pub each : (i : ℕ) → i < length (alternativesOf q) → (d : Row) → DenyRowAt i (getD (rows (contained p) p q) i d)
 
 -- 10 is the number of an explanation's last line alone
 last-line : (W : ℕ → ℕ → Bool) (holds : Bool) (room : ℕ) (p : Policy) (q : Asks) → First 10 (explainLines W holds room p q)
@@ -105,10 +62,6 @@ unfolding tells
 decides (Grants k) h = (grant k, refl)
 decides Denies h = (deny, refl)
 decides (Refuses n) h = absurd (h n refl)
-
--- the argument, the right, the cause and the number of the first row
-abbrev pub firstWhy : (out : List (List ℕ)) → List ℕ
-firstWhy out = getD (getD out 0 []) 1 0 ∷ getD (getD out 0 []) 2 0 ∷ getD (getD out 0 []) 3 0 ∷ getD (getD out 0 []) 4 0 ∷ []
 
 -- where the rows stand first they are those of the first row
 printed : (l : List Row) (behind : List (List ℕ)) → 1 ≤ length l → line D (firstWhy (map numbersOf l ++ behind)) ≡ denyLine l

@@ -8,12 +8,8 @@ use Rattle.model.specs.Refusal.{Answer, refused, accepted}
 use Rattle.model.specs.Request.{Verdict, grant, deny}
 use Rattle.model.specs.Explain.{Explained}
 use Rattle.exports.specs.Codes.{code, verdictCode, decisionCode, yesCode, saveCode, explainCode}
+use Rattle.exports.specs.Claims.{Alike, both-accepted, both-refused}
 use Rattle.exports.proofs.Numbered.{Numbered}
-
--- both accepted, or both refused with the same number
-pub data Alike {A B : Type 0} : Answer A → Answer B → Type 0 where
-  both-accepted : {a : A} {b : B} → Alike (accepted a) (accepted b)
-  both-refused : {n : ℕ} → Alike (refused n) (refused n)
 
 -- a verdict that a request can get: denied, or granted by alternative 1 or 2
 abbrev pub Given : Verdict → Type 0

@@ -33,7 +33,7 @@ yesCode (accepted true) = 1
 yesCode (accepted false) = 0
 yesCode (refused n) = 16 + n
 
--- a refusal number is one of 01's, 1 to 14: what the codes below add to it, and multiply it by, cannot overflow
+-- a refusal number is at most 14, as every one of 01's is: what the codes of this file add to it, and multiply it by, cannot overflow
 abbrev pub Listed : {A : Type 0} → Answer A → Type 0
 Listed a = (n : ℕ) → a ≡ refused n → n ≤ 14
 

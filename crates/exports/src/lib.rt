@@ -9,16 +9,15 @@ use table::Outcome;
 ghost use mathlib.Core.Path.{_≡_};
 ghost use Prim.Native.Nat.{_+_, _*_};
 ghost use Rattle.model.specs.Command.{create-class, create-element, assign, deassign, delete-element, create-association, delete-association, create-prohibition, delete-prohibition, start-process, end-process};
-ghost use Rattle.model.specs.Calls.{contains, decide, decideIndexed, save, build, isIndex};
-ghost use Rattle.table.specs.View.{memory};
-ghost use Rattle.table.specs.Answers.{told as toldDone, newTable};
+ghost use Rattle.table.specs.Answers.{told as toldDone};
 ghost use Rattle.climb.specs.Answers.{told as toldContained};
 ghost use Rattle.index.specs.Answers.{matched};
 ghost use Rattle.decide.specs.Answers.{told as toldDecided};
-ghost use Rattle.explain.specs.Answers.{told as toldExplained, explaining};
+ghost use Rattle.explain.specs.Answers.{told as toldExplained};
 ghost use Rattle.store.specs.ProhibitionWords.{prohibition};
-ghost use Rattle.image.specs.Answers.{saved, loadTable};
-ghost use Rattle.exports.specs.Codes.{code, decisionCode, yesCode, saveCode, explainCode, requested, Listed, Coded};
+ghost use Rattle.image.specs.Answers.{saved};
+ghost use Rattle.exports.specs.Codes.{code, decisionCode, yesCode, saveCode, explainCode, requested, Listed};
+ghost use Rattle.exports.specs.Allows as allows;
 
 // The refusal number, 0 where there is none.
 fn number(r: Outcome) -> u32
@@ -98,8 +97,7 @@ fn explain_code(r: Explanation) -> u64
 // Makes the memory an empty table.
 #[no_mangle]
 pub extern "C" fn qd_new(table: &mut [u32]) -> u32
-    ensures { λ r. ⌜ r ≡ code (newTable (now (table .entry)) .answers) ⌝ }
-    ensures { λ _. ⌜ now (table .exit) ≡ newTable (now (table .entry)) .words ⌝ }
+    ensures { λ r. ⌜ allows.new (now (table .entry)) r (now (table .exit)) ⌝ }
 {
     number(policy::new(table))
 }
@@ -107,8 +105,7 @@ pub extern "C" fn qd_new(table: &mut [u32]) -> u32
 // Makes the memory the table of the policy that the image spells.
 #[no_mangle]
 pub extern "C" fn qd_load(table: &mut [u32], image: &[u8]) -> u32
-    ensures { λ r. ⌜ r ≡ code (loadTable (now (image .entry)) (now (table .entry)) .answers) ⌝ }
-    ensures { λ _. ⌜ now (table .exit) ≡ loadTable (now (image .entry)) (now (table .entry)) .words ⌝ }
+    ensures { λ r. ⌜ allows.load (now (table .entry)) (now (image .entry)) r (now (table .exit)) ⌝ }
 {
     number(policy::load(table, image))
 }
@@ -116,8 +113,7 @@ pub extern "C" fn qd_load(table: &mut [u32], image: &[u8]) -> u32
 // Writes the image of the table's policy, and no byte beyond it.
 #[no_mangle]
 pub extern "C" fn qd_save(table: &[u32], out: &mut [u8]) -> u64
-    ensures { λ r. ⌜ r ≡ saveCode (save (memory (now (table .entry))) (now (out .entry)) .answers) ⌝ }
-    ensures { λ _. ⌜ now (out .exit) ≡ save (memory (now (table .entry))) (now (out .entry)) .leaves ⌝ }
+    ensures { λ r. ⌜ allows.save (now (table .entry)) (now (out .entry)) r (now (out .exit)) ⌝ }
 {
     save_code(policy::save(table, out))
 }
@@ -125,8 +121,7 @@ pub extern "C" fn qd_save(table: &[u32], out: &mut [u8]) -> u64
 // Makes the bytes the index of the table.
 #[no_mangle]
 pub extern "C" fn qd_build_index(table: &[u32], index: &mut [u8]) -> u32
-    ensures { λ r. ⌜ r ≡ code (build (memory (now (table .entry))) (now (index .entry)) .answers) ⌝ }
-    ensures { λ _. ⌜ now (index .exit) ≡ build (memory (now (table .entry))) (now (index .entry)) .index ⌝ }
+    ensures { λ r. ⌜ allows.build-index (now (table .entry)) (now (index .entry)) r (now (index .exit)) ⌝ }
 {
     number(policy::build_index(table, index))
 }
@@ -134,7 +129,7 @@ pub extern "C" fn qd_build_index(table: &[u32], index: &mut [u8]) -> u32
 // Whether the bytes are the index of the table.
 #[no_mangle]
 pub extern "C" fn qd_is_index(table: &[u32], index: &[u8]) -> u32
-    ensures { λ r. ⌜ r ≡ yesCode (isIndex (memory (now (table .entry))) (now (index .entry))) ⌝ }
+    ensures { λ r. ⌜ allows.is-index (now (table .entry)) (now (index .entry)) r ⌝ }
 {
     matching_code(policy::is_index(table, index))
 }
@@ -142,7 +137,7 @@ pub extern "C" fn qd_is_index(table: &[u32], index: &[u8]) -> u32
 // Whether x is within y, by chains of assignments.
 #[no_mangle]
 pub extern "C" fn qd_contains(table: &[u32], x: u32, y: u32) -> u32
-    ensures { λ r. ⌜ r ≡ yesCode (contains (memory (now (table .entry))) x y) ⌝ }
+    ensures { λ r. ⌜ allows.contains (now (table .entry)) x y r ⌝ }
 {
     containment_code(policy::contains(table, x, y))
 }
@@ -157,7 +152,7 @@ pub extern "C" fn qd_decide(
     b: u32,
     c: u32,
 ) -> u32
-    ensures { λ r. ⌜ r ≡ decisionCode (decide (memory (now (table .entry))) (requested process operation a b c)) ⌝ }
+    ensures { λ r. ⌜ allows.decide (now (table .entry)) (requested process operation a b c) r ⌝ }
 {
     let q = Request {
         process: process,
@@ -180,7 +175,7 @@ pub extern "C" fn qd_decide_indexed(
     b: u32,
     c: u32,
 ) -> u32
-    ensures { λ r. ⌜ r ≡ decisionCode (decideIndexed (memory (now (table .entry))) (now (index .entry)) (requested process operation a b c)) ⌝ }
+    ensures { λ r. ⌜ allows.decide-indexed (now (table .entry)) (now (index .entry)) (requested process operation a b c) r ⌝ }
 {
     let q = Request {
         process: process,
@@ -203,8 +198,7 @@ pub extern "C" fn qd_explain(
     c: u32,
     rows: &mut [[u32; 8]],
 ) -> u64
-    ensures { λ r. ⌜ r ≡ explainCode (explaining (memory (now (table .entry))) (requested process operation a b c) (now (rows .entry)) .answers) ⌝ }
-    ensures { λ _. ⌜ now (rows .exit) ≡ explaining (memory (now (table .entry))) (requested process operation a b c) (now (rows .entry)) .rows ⌝ }
+    ensures { λ r. ⌜ allows.explain (now (table .entry)) (requested process operation a b c) (now (rows .entry)) r (now (rows .exit)) ⌝ }
 {
     let q = Request {
         process: process,
@@ -219,7 +213,7 @@ pub extern "C" fn qd_explain(
 // Creates a policy class.
 #[no_mangle]
 pub extern "C" fn qd_create_class(table: &mut [u32], index: &mut [u8], id: u32) -> u32
-    ensures { λ r. ⌜ Coded (now (table .entry)) (now (index .entry)) (create-class id) r (now (table .exit)) (now (index .exit)) ⌝ }
+    ensures { λ r. ⌜ allows.command (now (table .entry)) (now (index .entry)) (create-class id) r (now (table .exit)) (now (index .exit)) ⌝ }
 {
     number(policy::create_class(table, index, id))
 }
@@ -233,7 +227,7 @@ pub extern "C" fn qd_create_element(
     kind: u32,
     container: u32,
 ) -> u32
-    ensures { λ r. ⌜ Coded (now (table .entry)) (now (index .entry)) (create-element id kind container) r (now (table .exit)) (now (index .exit)) ⌝ }
+    ensures { λ r. ⌜ allows.command (now (table .entry)) (now (index .entry)) (create-element id kind container) r (now (table .exit)) (now (index .exit)) ⌝ }
 {
     number(policy::create_element(table, index, id, kind, container))
 }
@@ -241,7 +235,7 @@ pub extern "C" fn qd_create_element(
 // Assigns the child to the container.
 #[no_mangle]
 pub extern "C" fn qd_assign(table: &mut [u32], index: &mut [u8], child: u32, container: u32) -> u32
-    ensures { λ r. ⌜ Coded (now (table .entry)) (now (index .entry)) (assign child container) r (now (table .exit)) (now (index .exit)) ⌝ }
+    ensures { λ r. ⌜ allows.command (now (table .entry)) (now (index .entry)) (assign child container) r (now (table .exit)) (now (index .exit)) ⌝ }
 {
     number(policy::assign(table, index, child, container))
 }
@@ -254,7 +248,7 @@ pub extern "C" fn qd_deassign(
     child: u32,
     container: u32,
 ) -> u32
-    ensures { λ r. ⌜ Coded (now (table .entry)) (now (index .entry)) (deassign child container) r (now (table .exit)) (now (index .exit)) ⌝ }
+    ensures { λ r. ⌜ allows.command (now (table .entry)) (now (index .entry)) (deassign child container) r (now (table .exit)) (now (index .exit)) ⌝ }
 {
     number(policy::deassign(table, index, child, container))
 }
@@ -262,7 +256,7 @@ pub extern "C" fn qd_deassign(
 // Deletes an element with its own assignments.
 #[no_mangle]
 pub extern "C" fn qd_delete_element(table: &mut [u32], index: &mut [u8], id: u32) -> u32
-    ensures { λ r. ⌜ Coded (now (table .entry)) (now (index .entry)) (delete-element id) r (now (table .exit)) (now (index .exit)) ⌝ }
+    ensures { λ r. ⌜ allows.command (now (table .entry)) (now (index .entry)) (delete-element id) r (now (table .exit)) (now (index .exit)) ⌝ }
 {
     number(policy::delete_element(table, index, id))
 }
@@ -276,7 +270,7 @@ pub extern "C" fn qd_create_association(
     rights: u32,
     target: u32,
 ) -> u32
-    ensures { λ r. ⌜ Coded (now (table .entry)) (now (index .entry)) (create-association (record { attribute = attribute; target = target; rights = rights })) r (now (table .exit)) (now (index .exit)) ⌝ }
+    ensures { λ r. ⌜ allows.command (now (table .entry)) (now (index .entry)) (create-association (record { attribute = attribute; target = target; rights = rights })) r (now (table .exit)) (now (index .exit)) ⌝ }
 {
     number(policy::create_association(table, index, attribute, target, rights))
 }
@@ -290,7 +284,7 @@ pub extern "C" fn qd_delete_association(
     rights: u32,
     target: u32,
 ) -> u32
-    ensures { λ r. ⌜ Coded (now (table .entry)) (now (index .entry)) (delete-association (record { attribute = attribute; target = target; rights = rights })) r (now (table .exit)) (now (index .exit)) ⌝ }
+    ensures { λ r. ⌜ allows.command (now (table .entry)) (now (index .entry)) (delete-association (record { attribute = attribute; target = target; rights = rights })) r (now (table .exit)) (now (index .exit)) ⌝ }
 {
     number(policy::delete_association(table, index, attribute, target, rights))
 }
@@ -307,7 +301,7 @@ pub extern "C" fn qd_create_prohibition(
     inclusion: &[u32],
     exclusion: &[u32],
 ) -> u32
-    ensures { λ r. ⌜ Coded (now (table .entry)) (now (index .entry)) (create-prohibition (prohibition sort subject form rights (now (inclusion .entry)) (now (exclusion .entry)))) r (now (table .exit)) (now (index .exit)) ⌝ }
+    ensures { λ r. ⌜ allows.command (now (table .entry)) (now (index .entry)) (create-prohibition (prohibition sort subject form rights (now (inclusion .entry)) (now (exclusion .entry)))) r (now (table .exit)) (now (index .exit)) ⌝ }
 {
     number(policy::create_prohibition(
         table,
@@ -333,7 +327,7 @@ pub extern "C" fn qd_delete_prohibition(
     inclusion: &[u32],
     exclusion: &[u32],
 ) -> u32
-    ensures { λ r. ⌜ Coded (now (table .entry)) (now (index .entry)) (delete-prohibition (prohibition sort subject form rights (now (inclusion .entry)) (now (exclusion .entry)))) r (now (table .exit)) (now (index .exit)) ⌝ }
+    ensures { λ r. ⌜ allows.command (now (table .entry)) (now (index .entry)) (delete-prohibition (prohibition sort subject form rights (now (inclusion .entry)) (now (exclusion .entry)))) r (now (table .exit)) (now (index .exit)) ⌝ }
 {
     number(policy::delete_prohibition(
         table,
@@ -350,7 +344,7 @@ pub extern "C" fn qd_delete_prohibition(
 // Starts a process of a user.
 #[no_mangle]
 pub extern "C" fn qd_start_process(table: &mut [u32], index: &mut [u8], id: u32, user: u32) -> u32
-    ensures { λ r. ⌜ Coded (now (table .entry)) (now (index .entry)) (start-process id user) r (now (table .exit)) (now (index .exit)) ⌝ }
+    ensures { λ r. ⌜ allows.command (now (table .entry)) (now (index .entry)) (start-process id user) r (now (table .exit)) (now (index .exit)) ⌝ }
 {
     number(policy::start_process(table, index, id, user))
 }
@@ -358,7 +352,7 @@ pub extern "C" fn qd_start_process(table: &mut [u32], index: &mut [u8], id: u32,
 // Ends a process.
 #[no_mangle]
 pub extern "C" fn qd_end_process(table: &mut [u32], index: &mut [u8], id: u32) -> u32
-    ensures { λ r. ⌜ Coded (now (table .entry)) (now (index .entry)) (end-process id) r (now (table .exit)) (now (index .exit)) ⌝ }
+    ensures { λ r. ⌜ allows.command (now (table .entry)) (now (index .entry)) (end-process id) r (now (table .exit)) (now (index .exit)) ⌝ }
 {
     number(policy::end_process(table, index, id))
 }

@@ -57,6 +57,25 @@ module _ {A : Type 0} (t : A → Bool) where
 pub those-last : (t : ℕ → Bool) (n : ℕ) → those t (tabulate (suc n) (λ i. i)) ≡ those t (tabulate n (λ i. i)) ++ those t (one n)
 those-last t n = ap (those t) (tabulate-last n (λ i. i)) ∙ those-append t (tabulate n (λ i. i)) (one n)
 
+-- where none from c on below n passes, those below n are those below c
+pub those-passed : (t : ℕ → Bool) (c n : ℕ) → c ≤ n → ((y : ℕ) → c ≤ y → y < n → t y ≡ false) → those t (tabulate n (λ i. i)) ≡ those t (tabulate c (λ i. i))
+unfolding those
+those-passed t c zero l h = let e : c ≡ 0 = omega arith in rw e refl
+those-passed t c (suc n) l h = elim (ℕ-discrete c (suc n)) [
+  | yes e ↦ rw e refl
+  | no d ↦
+      those-last t n ∙ (rw (h n (omega arith) (omega arith)) (append-nil (those t (tabulate n (λ i. i)))))
+      ∙ those-passed t c n (omega arith) (λ y a b. h y a (omega arith))
+]
+
+-- those below c are no more than those below n
+pub those-few : (t : ℕ → Bool) (c n : ℕ) → c ≤ n → length (those t (tabulate c (λ i. i))) ≤ length (those t (tabulate n (λ i. i)))
+those-few t c zero l = let e : c ≡ 0 = omega arith in rw e (omega arith)
+those-few t c (suc n) l = elim (ℕ-discrete c (suc n)) [
+  | yes e ↦ rw e (omega arith)
+  | no d ↦ rw (those-last t n, length-append (those t (tabulate n (λ i. i))) (those t (one n))) (omega (arith, those-few t c n (omega arith)))
+]
+
 module _ {A B : Type 0} (f : A → List B) where
   -- what is joined of a list and of another behind it
   pub joined-append : (l m : List A) → joined f (l ++ m) ≡ joined f l ++ joined f m
@@ -77,11 +96,10 @@ joined-below f F t h (suc n) =
     last true = append-nil (f n)
     last false = refl
 
--- a list of results, as rows of one each that are joined
-pub map-joined : {A B : Type 0} (f : A → B) (l : List A) → map f l ≡ joined (λ a. one (f a)) l
-unfolding joined
-map-joined f [] = refl
-map-joined {B = B} f (a ∷ l) = ap (λ (m : List B). f a ∷ m) (map-joined f l)
+-- results of two lists
+pub map-append : {A B : Type 0} (f : A → B) (l m : List A) → map f (l ++ m) ≡ map f l ++ map f m
+map-append f [] m = refl
+map-append {B = B} f (a ∷ l) m = ap (λ (n : List B). f a ∷ n) (map-append f l m)
 
 -- The classes of a policy of words.
 module _ (E : ℕ → Bool) (mem : List ℕ) where

@@ -1,6 +1,6 @@
 -- How many: the classes of an element, the rights of a set, the rows of a set and of an alternative.
 -- Assumes nothing.
-use mathlib.Core.Path.{_≡_, refl, sym, ap, ap₂, fun-ext, _∙_}
+use mathlib.Core.Path.{_≡_, refl, sym, ap, ap₂, _∙_}
 use mathlib.Core.Bool.{Bool, true, false}
 use mathlib.Core.List.{List, [], _∷_, _++_}
 use Prim.Native.Nat.{ℕ, _+_, _*_, _≤_}
@@ -17,18 +17,15 @@ use Rattle.model.specs.Bits.{digit}
 use Rattle.model.specs.Contain.{contained}
 use Rattle.model.specs.Rule.{classesOf}
 use Rattle.model.specs.Explain.{joined}
-use Rattle.table.specs.View.{policyOf}
 use Rattle.table.specs.Facts.{AtMost}
 use Rattle.request.specs.Sets.{rightsIn}
 use Rattle.request.specs.declared.Request.{Request}
-use Rattle.rule.specs.Sight.{seen}
-use Rattle.rule.specs.Parts.{classOf}
 use Rattle.rule.specs.declared.Asking.{Asking}
-use Rattle.held.specs.Lacking.{sight, Rows}
+use Rattle.held.specs.Lacking.{Rows}
 use Rattle.decide.specs.Asks.{askingOf, withRight, AllRows}
 use Rattle.decide.proofs.Left.{Left, rights-below}
 use Rattle.grants.specs.Numbers.{classNumbers, rightNumbers, setNumbers, grantNumbers}
-use Rattle.grants.proofs.Below.{those-last, classes-below, no-class}
+use Rattle.grants.proofs.Below.{those-last}
 
 -- a test as a number
 module _ {b : Bool} where
@@ -42,14 +39,14 @@ module _ {b : Bool} where
   unfolding digit
   none-for h = rw h (record { is = refl; few = omega arith })
 
--- n is how many numbers below c pass the test; those below `from` do not
-pub record CountedBelow (t : ℕ → Bool) (from c n : ℕ) : Type 0 where
+-- n is how many numbers below c pass the test
+pub record CountedBelow (t : ℕ → Bool) (c n : ℕ) : Type 0 where
   pub is : n ≡ length (those t (tabulate c (λ i. i)))
-  pub few : n + from ≤ c
+  pub few : n ≤ c
 
 -- one more
-module _ (t : ℕ → Bool) (from : ℕ) {c n : ℕ} (k : CountedBelow t from c n) {b : Bool} (e : b ≡ t c) {d : ℕ} (o : AtMost (digit b) 1 d) where
-  counted-more : CountedBelow t from (c + 1) (n + d)
+module _ (t : ℕ → Bool) {c n : ℕ} (k : CountedBelow t c n) {b : Bool} (e : b ≡ t c) {d : ℕ} (o : AtMost (digit b) 1 d) where
+  counted-more : CountedBelow t (c + 1) (n + d)
   unfolding those digit
   counted-more = record {
     is = rw (add-one c, those-last t c, length-append (those t (tabulate c (λ i. i))) (those t (one c)))
@@ -61,50 +58,20 @@ module _ (t : ℕ → Bool) (from : ℕ) {c n : ℕ} (k : CountedBelow t from c 
       last true = refl
       last false = refl
 
--- The classes of an element.
-module _ {mem rows : List ℕ} {q : Asking} (w : Rows mem rows false q) where
-  -- rows that say what is meant say what the element is within
-  pub rows-same : seen rows false (q .over) ≡ contained (policyOf mem) (q .element)
-  unfolding sight
-  rows-same = fun-ext (w .element)
-
-  -- all are counted
-  pub classes-end : {c n : ℕ} → c ≤ 512 → 512 ≤ c → CountedBelow (classOf (seen rows false (q .over)) (policyOf mem)) 1 c n
-      → AtMost (length (classesOf (contained (policyOf mem) (q .element)) (policyOf mem))) 511 n
-  classes-end {c} l h k =
-      let e : c ≡ 512 = omega arith in
-      record {
-        is = k .is
-            ∙ ap (λ (i : ℕ). length (those (classOf (seen rows false (q .over)) (policyOf mem)) (tabulate i (λ j. j)))) e
-            ∙ ap length (sym (classes-below (seen rows false (q .over)) mem))
-            ∙ ap (λ (E : ℕ → Bool). length (classesOf E (policyOf mem))) rows-same;
-        few = omega (arith, k .few);
-      }
-
-module _ (E : ℕ → Bool) (mem : List ℕ) where
-  -- none is below 1
-  pub classes-start : CountedBelow (classOf E (policyOf mem)) 1 1 0
-  classes-start = record { is = ap length (sym (no-class E mem)); few = omega arith }
-
-  -- one more number is counted or not
-  pub classes-more : {c n : ℕ} → CountedBelow (classOf E (policyOf mem)) 1 c n → {b : Bool} → b ≡ classOf E (policyOf mem) c → {d : ℕ} → AtMost (digit b) 1 d
-      → CountedBelow (classOf E (policyOf mem)) 1 (c + 1) (n + d)
-  classes-more k e o = counted-more (classOf E (policyOf mem)) 1 k e o
-
 -- The rights of a set.
 module _ (rights : ℕ) where
   -- none is below 0
-  pub rights-start : CountedBelow (hasRight rights) 0 0 0
+  pub rights-start : CountedBelow (hasRight rights) 0 0
   unfolding those tabulate
   rights-start = record { is = refl; few = omega arith }
 
   -- one more is counted or not
-  pub rights-more : {r n : ℕ} → CountedBelow (hasRight rights) 0 r n → {b : Bool} → b ≡ hasRight rights r → {d : ℕ} → AtMost (digit b) 1 d
-      → CountedBelow (hasRight rights) 0 (r + 1) (n + d)
-  rights-more k e o = counted-more (hasRight rights) 0 k e o
+  pub rights-more : {r n : ℕ} → CountedBelow (hasRight rights) r n → {b : Bool} → b ≡ hasRight rights r → {d : ℕ} → AtMost (digit b) 1 d
+      → CountedBelow (hasRight rights) (r + 1) (n + d)
+  rights-more k e o = counted-more (hasRight rights) k e o
 
   -- none is left: all are counted
-  pub rights-end : {r n left : ℕ} → CountedBelow (hasRight rights) 0 r n → Left rights r left → left ≤ 0 → AtMost (length (rightsIn rights)) 32 n
+  pub rights-end : {r n left : ℕ} → CountedBelow (hasRight rights) r n → Left rights r left → left ≤ 0 → AtMost (length (rightsIn rights)) 32 n
   rights-end k w h = record { is = k .is ∙ ap length (sym (rights-below w h)); few = omega (arith, k .few, w .near) }
 
 -- parts of n rows each, joined

@@ -20,17 +20,12 @@ use Rattle.request.proofs.Operations.{rights-back}
 use Rattle.request.proofs.Alternatives.{set-at, askedAt}
 use Rattle.decide.specs.Asks.{askingOf, withRight}
 use Rattle.grants.specs.Numbers.{lowestIn, classNumbers, rightNumbers, setNumbers, grantNumbers}
-use Rattle.grants.proofs.Below.{joined-append}
+use Rattle.grants.proofs.Below.{map-append, joined-append}
 
 -- the eight numbers of a row
 abbrev numbersOf : Row → List ℕ
 numbersOf r =
     r .alternative ∷ r .argument ∷ r .right ∷ r .cause ∷ r .number ∷ r .attribute ∷ r .target ∷ r .rights ∷ []
-
--- results of two lists
-map-append : {A B : Type 0} (f : A → B) (l m : List A) → map f (l ++ m) ≡ map f l ++ map f m
-map-append f [] m = refl
-map-append {B = B} f (a ∷ l) m = ap (λ (n : List B). f a ∷ n) (map-append f l m)
 
 -- of no argument nothing is asked
 asked-none : (i : ℕ) (alternative : Alternative) → asked i alternative [] ≡ []

@@ -52,7 +52,3 @@ module _ (F : ℕ → List (List ℕ)) where
   pub put-room : (n c : ℕ) → c < n → {out out₁ : List (List ℕ)} {at t₁ : ℕ} → at + length (below F n) ≤ length out
       → Put out at (below F c) out₁ t₁ → t₁ + length (F c) ≤ length out₁
   put-room n c l h p = omega (arith, below-room F n c l, p .next, p .size)
-
-  -- it ends
-  pub put-end : (n c : ℕ) → c ≤ n → n ≤ c → {out out₁ : List (List ℕ)} {at t₁ : ℕ} → Put out at (below F c) out₁ t₁ → Put out at (below F n) out₁ t₁
-  put-end n c l h p = let q : n ≡ c = omega arith in rw q p

@@ -2,31 +2,25 @@
 -- Assumes nothing.
 use mathlib.Core.Path.{_≡_, refl, sym, ap, subst, _∙_}
 use mathlib.Core.Bool.{Bool, true, false, not}
-use mathlib.Core.List.{List, [], _∷_, _++_, map}
+use mathlib.Core.List.{List, [], _∷_, _++_}
 use Prim.Native.Nat.{ℕ, suc, _+_, _-_, _≤_, _<_}
 use native.Mathlib.Omega.{arith}
 use borrow.Author.Tests.{not-true, not-false}
-use lib.ListN.{length, getD, set, length-append}
-use Rattle.model.specs.Lists.{those, one, tabulate}
+use lib.ListN.{length, getD, length-append}
+use Rattle.model.specs.Lists.{those, tabulate}
 use Rattle.model.specs.Policy.{Policy, hasRight}
-use Rattle.model.specs.Contain.{contained}
 use Rattle.model.specs.Explain.{joined}
-use Rattle.table.specs.Layout.{associationCount}
-use Rattle.table.specs.View.{associationsOf, associationAt, policyOf}
+use Rattle.table.specs.View.{associationAt}
 use Rattle.request.specs.Sets.{rightsIn}
 use Rattle.request.specs.declared.Request.{Request}
-use Rattle.rule.specs.Sight.{seen}
-use Rattle.rule.specs.Parts.{classOf}
 use Rattle.rule.specs.declared.Asking.{Asking}
 use Rattle.held.specs.Lacking.{Rows}
 use Rattle.decide.specs.Asks.{askingOf, withRight}
 use Rattle.decide.proofs.Left.{Left, left-near, rights-below}
-use Rattle.lowest.specs.Named.{named, LowestOfFirst}
-use Rattle.grants.specs.Numbers.{lowestIn, classNumbers, namedNumbers, classRows, rightNumbers, ifRows, setNumbers, grantNumbers}
+use Rattle.grants.specs.Numbers.{namedNumbers, rightNumbers, ifRows, setNumbers, grantNumbers}
 use Rattle.grants.specs.Put.{Put}
-use Rattle.grants.proofs.Below.{below, joined-below, map-joined, classes-below, zero-other}
-use Rattle.grants.proofs.Placed.{put-none, put-one, put-then, put-start, put-more, put-room, put-end}
-use Rattle.grants.proofs.Counted.{rows-same}
+use Rattle.grants.proofs.Below.{below, joined-below}
+use Rattle.grants.proofs.Placed.{put-none, put-then, put-start, put-more, put-room}
 
 -- The row with a named association.
 module _ (mem : List ℕ) (name : ℕ) (q : Asking) (alternative k c : ℕ) where
@@ -38,71 +32,6 @@ module _ (mem : List ℕ) (name : ℕ) (q : Asking) (alternative k c : ℕ) wher
   pub named-some : (name ≡ 0 → ⊥) → {x y z : ℕ} → x ≡ associationAt mem (name - 1) .attribute → y ≡ associationAt mem (name - 1) .target
       → z ≡ associationAt mem (name - 1) .rights → alternative ∷ k ∷ q .right ∷ 0 ∷ c ∷ x ∷ y ∷ z ∷ [] ≡ namedNumbers mem name q alternative k c
   named-some d ex ey ez = let e : name ≡ suc (name - 1) = omega arith in rw (ex, ey, ez) (subst (λ (n : ℕ). alternative ∷ k ∷ q .right ∷ 0 ∷ c ∷ associationAt mem (name - 1) .attribute ∷ associationAt mem (name - 1) .target ∷ associationAt mem (name - 1) .rights ∷ [] ≡ namedNumbers mem n q alternative k c) (sym e) refl)
-
--- The row of a class.
-module _ {mem rows : List ℕ} {q : Asking} (w : Rows mem rows false q) (alternative k c : ℕ) {b : Bool} (is : b ≡ classOf (seen rows false (q .over)) (policyOf mem) c) where
-  -- the test is whether it is a class that the element is within
-  its-class : b ≡ classOf (contained (policyOf mem) (q .element)) (policyOf mem) c
-  its-class = is ∙ ap (λ (E : ℕ → Bool). classOf E (policyOf mem) c) (rows-same w)
-
-  -- it is not: no row
-  pub class-none : not b ≡ true → (out : List (List ℕ)) (at : ℕ) → Put out at (classRows (policyOf mem) q alternative k c) out at
-  unfolding classRows
-  class-none h out at = rw (← its-class, not-true b h) (put-none out at)
-
-  module _ (h : not b ≡ false) where
-    -- it is: the row has room
-    pub class-room : {at : ℕ} (out : List (List ℕ)) → at + length (classRows (policyOf mem) q alternative k c) ≤ length out → at < length out
-    unfolding classRows
-    class-room {at} out l = omega (arith, rw (← its-class, not-false b h) at l)
-
-    -- and is written
-    pub class-one : (name : ℕ) → named mem name ≡ lowestIn (policyOf mem) q c → {x : List ℕ} → x ≡ namedNumbers mem name q alternative k c
-        → (out : List (List ℕ)) (at : ℕ) → Put out at (classRows (policyOf mem) q alternative k c) (set out at x) (at + 1)
-    unfolding classRows classNumbers
-    class-one name n e out at = rw (← its-class, not-false b h, ← n, ← e) (put-one out at _)
-
--- What each class names.
-module _ {mem : List ℕ} {q : Asking} {names : List ℕ} (l : LowestOfFirst mem q (associationCount mem) names) (c : ℕ) (h : c < 512) where
-  -- is an association of the table, or none
-  pub name-few : getD names c 0 ≤ associationCount mem
-  name-few = l .few c h
-
-  -- and the lowest that authorizes the right in the class
-  pub name-lowest : named mem (getD names c 0) ≡ lowestIn (policyOf mem) q c
-  unfolding lowestIn policyOf associationsOf
-  name-lowest = l .is c h
-
--- The rows of a right, class by class.
-module _ (mem : List ℕ) (q : Asking) (alternative k : ℕ) where
-  -- they are those of the classes below 512
-  right-below : rightNumbers (policyOf mem) q alternative k ≡ below (classRows (policyOf mem) q alternative k) 512
-  unfolding rightNumbers classRows
-  right-below =
-      ap (map (classNumbers (policyOf mem) q alternative k)) (classes-below (contained (policyOf mem) (q .element)) mem)
-      ∙ map-joined (classNumbers (policyOf mem) q alternative k) _
-      ∙ joined-below (λ c. one (classNumbers (policyOf mem) q alternative k c)) (classRows (policyOf mem) q alternative k)
-      (classOf (contained (policyOf mem) (q .element)) (policyOf mem)) (λ c. refl) 512
-
-  -- none is written before class 1
-  pub right-start : (out : List (List ℕ)) (at : ℕ) → Put out at (below (classRows (policyOf mem) q alternative k) 1) out at
-  unfolding below classRows
-  right-start out at = rw (zero-other (contained (policyOf mem) (q .element)) mem) (put-none out at)
-
-  module _ {c : ℕ} (l : c < 512) {out out₁ : List (List ℕ)} {at t : ℕ} (p : Put out at (below (classRows (policyOf mem) q alternative k) c) out₁ t) where
-    -- the row of the next class has room
-    pub right-room : at + length (rightNumbers (policyOf mem) q alternative k) ≤ length out → t + length (classRows (policyOf mem) q alternative k c) ≤ length out₁
-    right-room h = put-room (classRows (policyOf mem) q alternative k) 512 c l (rw right-below at h) p
-
-    -- and is written
-    pub right-more : {out₂ : List (List ℕ)} {s : ℕ} → Put out₁ t (classRows (policyOf mem) q alternative k c) out₂ s
-        → Put out at (below (classRows (policyOf mem) q alternative k) (c + 1)) out₂ s
-    right-more r = put-more (classRows (policyOf mem) q alternative k) c p r
-
-  -- all are written
-  pub right-end : {c : ℕ} → c ≤ 512 → 512 ≤ c → {out out₁ : List (List ℕ)} {at t : ℕ} → Put out at (below (classRows (policyOf mem) q alternative k) c) out₁ t
-      → Put out at (rightNumbers (policyOf mem) q alternative k) out₁ t
-  right-end {c} l h p = rw right-below (put-end (classRows (policyOf mem) q alternative k) 512 c l h p)
 
 -- The rows of one right of a set.
 module _ (p : Policy) (q : Asking) (rights alternative k r : ℕ) {b : Bool} (is : b ≡ hasRight rights r) where

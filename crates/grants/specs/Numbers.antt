@@ -4,14 +4,13 @@ use mathlib.Core.Bool.{false, cond}
 use mathlib.Core.List.{List, [], _∷_, _++_, map}
 use Prim.Native.Nat.{ℕ}
 use lib.ListN.{getD}
-use Rattle.model.specs.Lists.{those, one}
+use Rattle.model.specs.Lists.{those}
 use Rattle.model.specs.Policy.{Association, Policy, hasRight}
 use Rattle.model.specs.Contain.{contained}
 use Rattle.model.specs.Rule.{classesOf, gives}
 use Rattle.model.specs.Explain.{lowestAssociation, joined}
 use Rattle.request.specs.Sets.{rightsIn}
 use Rattle.request.specs.declared.Request.{Request}
-use Rattle.rule.specs.Parts.{classOf}
 use Rattle.rule.specs.declared.Asking.{Asking}
 use Rattle.lowest.specs.Named.{named}
 use Rattle.decide.specs.Asks.{askingOf, withRight}
@@ -30,10 +29,6 @@ classNumbers p q alternative k c =
 abbrev pub namedNumbers : (mem : List ℕ) (name : ℕ) → Asking → (alternative k c : ℕ) → List ℕ
 namedNumbers mem name q alternative k c =
     alternative ∷ k ∷ q .right ∷ 0 ∷ c ∷ named mem name .attribute ∷ named mem name .target ∷ named mem name .rights ∷ []
-
--- the row of class c, if the element is within it
-unfoldable pub classRows : Policy → Asking → (alternative k c : ℕ) → List (List ℕ)
-classRows p q alternative k c = cond (classOf (contained p (q .element)) p c) (one (classNumbers p q alternative k c)) []
 
 -- the rows of a right, one for each class
 unfoldable pub rightNumbers : Policy → Asking → (alternative k : ℕ) → List (List ℕ)

@@ -12,8 +12,7 @@ ghost use Rattle.table.specs.Facts.{Table, AtMost};
 ghost use Rattle.request.specs.Sets.{rightsIn};
 ghost use Rattle.held.specs.Lacking.{Rows};
 ghost use Rattle.decide.specs.Asks.{askingOf, AllRows};
-ghost use Rattle.lowest.specs.Named.{named};
-ghost use Rattle.grants.specs.Numbers.{lowestIn, namedNumbers, classRows, rightNumbers, ifRows, setNumbers, grantNumbers};
+ghost use Rattle.grants.specs.Numbers.{namedNumbers, rightNumbers, ifRows, setNumbers, grantNumbers};
 ghost use Rattle.grants.specs.Put.{Put};
 use request::Request;
 use rule::Asking;
@@ -25,10 +24,10 @@ fn count_classes(mem: &[u32], rows: &[u8], q: Asking) -> usize
     ensures { λ r. ⌜ AtMost (length (classesOf (contained (policyOf (now (mem .entry))) (q .element)) (policyOf (now (mem .entry))))) 511 r ⌝ }
 {
     let mut n = 0;
-    let mut c = 1;
+    let mut c = held::next_class(mem, rows, q.over, 1);
     while c < 512 {
-        n += one_if(rule::is_class_of(mem, rows, false, q.over, c));
-        c += 1;
+        n += 1;
+        c = held::next_class(mem, rows, q.over, c + 1);
     }
     n
 }
@@ -119,32 +118,6 @@ fn class_row(mem: &[u32], name: u32, q: Asking, alternative: u32, k: u32, c: u32
     ]
 }
 
-// Writes the row of class c, if the element is within it. Returns the next place.
-fn put_class(
-    mem: &[u32],
-    rows: &[u8],
-    name: u32,
-    q: Asking,
-    alternative: u32,
-    k: u32,
-    c: u32,
-    out: &mut [[u32; 8]],
-    at: usize,
-) -> usize
-    requires { ⌜ Table (now mem) ⌝ }
-    requires { ⌜ Rows (now mem) (now rows) false q ⌝ }
-    requires { ⌜ name ≤ associationCount (now mem) ⌝ }
-    requires { ⌜ named (now mem) name ≡ lowestIn (policyOf (now mem)) q c ⌝ }
-    requires { ⌜ at + length (classRows (policyOf (now mem)) q alternative k c) ≤ length (now out) ⌝ }
-    ensures { λ r. ⌜ Put (now (out .entry)) at (classRows (policyOf (now (mem .entry))) q alternative k c) (now (out .exit)) r ⌝ }
-{
-    if !rule::is_class_of(mem, rows, false, q.over, c) {
-        return at;
-    }
-    out[at] = class_row(mem, name, q, alternative, k, c);
-    at + 1
-}
-
 // Writes the rows of a right. Returns the next place.
 fn put_right(
     mem: &[u32],
@@ -163,10 +136,11 @@ fn put_right(
 {
     let names = lowest::lowest(mem, rows, q);
     let mut t = at;
-    let mut c = 1;
+    let mut c = held::next_class(mem, rows, q.over, 1);
     while c < 512 {
-        t = put_class(mem, rows, names[c as usize], q, alternative, k, c, out, t);
-        c += 1;
+        out[t] = class_row(mem, names[c as usize], q, alternative, k, c);
+        t += 1;
+        c = held::next_class(mem, rows, q.over, c + 1);
     }
     t
 }

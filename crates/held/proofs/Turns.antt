@@ -1,6 +1,6 @@
--- The turns of the loop over the classes: a class that the element is not within, one in which the right is given, the first that lacks it.
+-- The turns of the loop over the classes of an element: on to the next, one in which the right is given, the first that lacks it.
 -- Assumes nothing.
-use mathlib.Core.Path.{_≡_, sym, ap, subst, _∙_}
+use mathlib.Core.Path.{_≡_, sym, ap, _∙_}
 use mathlib.Core.Bool.{Bool, true, false, not}
 use mathlib.Core.List.{List}
 use Prim.Native.Nat.{ℕ, _+_, _≤_, _<_}
@@ -18,6 +18,7 @@ use Rattle.table.specs.View.{policyOf}
 use Rattle.rule.specs.Sight.{seen}
 use Rattle.rule.specs.Parts.{classOf}
 use Rattle.rule.specs.declared.Asking.{Asking}
+use Rattle.rule.proofs.Sighted.{class-either}
 use Rattle.held.specs.Lacking.{lackOf}
 use Rattle.held.specs.Passing.{NextClass}
 use Rattle.held.specs.Giving.{givenByFirst, GivenMarks, GivenBits}
@@ -64,15 +65,6 @@ module _ {U E : ℕ → Bool} {T : ℕ → ℕ → Bool} {mem : List ℕ} {r : �
       on (none-met m) = none-met (λ d k i. m d (below d k i) i)
       on (one-met i) = one-met i
 
-  module _ {c lacked : ℕ} (f : Far U E T mem r c lacked) (l : c < 512) {b : Bool} (e : b ≡ classOf E (policyOf mem) c) where
-    -- c is no class of the element
-    far-on : not b ≡ true → Far U E T mem r (c + 1) lacked
-    far-on h = far-to f (c + 1) (λ y a z. let q : c ≡ y = omega arith in subst (λ (x : ℕ). classOf E (policyOf mem) x ≡ false) q (sym e ∙ not-true b h))
-
-    -- it is one
-    far-class : not b ≡ false → AtClass U E T mem r c lacked
-    far-class h = record { far = f; small = l; its-class = passes-class E mem (sym e ∙ not-false b h) }
-
   -- past the last class
   far-end : {c lacked : ℕ} → Far U E T mem r c lacked → 512 ≤ c → lacked ≡ lackOf U E T (policyOf mem) r
   far-end {c} f h = go (f .met)
@@ -101,9 +93,10 @@ module _ {U E : ℕ → Bool} {T : ℕ → ℕ → Bool} {mem : List ℕ} {r : �
     class-lacks m g =
         sym (lack-lowest U E T (policyOf mem) r (a .its-class) (sym (given-all U E T mem r c) ∙ ap (λ (j : ℕ). givenByFirst U E T mem r j c) (sym m) ∙ g) (a .far .given))
 
--- The loop over the classes, by climbing: how far it has come, with i of the n associations seen.
+-- The loop over the classes, by climbing: how far it has come, to a class or past the last, with i of the n associations seen.
 pub record FarMarked (mem rows : List ℕ) (q : Asking) (n c lacked i : ℕ) (given queue : List ℕ) (tail : ℕ) : Type 0 where
   pub far : Far (seen rows false (q .by)) (seen rows false (q .over)) (contained (policyOf mem)) mem (q .right) c lacked
+  pub its-class : c < 512 → In c (classesOf (seen rows false (q .over)) (policyOf mem))
   pub marks : GivenMarks mem rows q i given queue tail
   pub counted : n ≡ associationCount mem
   pub few : i ≤ n
@@ -113,19 +106,28 @@ pub record AtMarked (mem rows : List ℕ) (q : Asking) (n c lacked i : ℕ) (giv
   pub far : FarMarked mem rows q n c lacked i given queue tail
   pub at : AtClass (seen rows false (q .by)) (seen rows false (q .over)) (contained (policyOf mem)) mem (q .right) c lacked
 
+-- on to the next class
+marked-to : {mem rows : List ℕ} {q : Asking} {n c lacked i : ℕ} {given queue : List ℕ} {tail : ℕ}
+    → Far (seen rows false (q .by)) (seen rows false (q .over)) (contained (policyOf mem)) mem (q .right) c lacked → GivenMarks mem rows q i given queue tail
+    → n ≡ associationCount mem → i ≤ n → {s : ℕ} → NextClass mem rows (q .over) c 512 s → FarMarked mem rows q n s lacked i given queue tail
+marked-to {mem} {rows} {q} f g k m {s} p = record {
+  far = far-to f s (λ y a b. class-either mem rows (q .over) y ∙ p .none y a b);
+  its-class = λ l. passes-class (seen rows false (q .over)) mem (class-either mem rows (q .over) s ∙ p .its-class l);
+  marks = g;
+  counted = k;
+  few = m;
+}
+
 -- it starts
-pub marked-start : (mem rows : List ℕ) (q : Asking) {n : ℕ} → n ≡ associationCount mem → FarMarked mem rows q n 1 0 0 (replicate 512 0) (replicate 512 0) 0
-marked-start mem rows q k = record { far = far-none (seen rows false (q .by)) (seen rows false (q .over)) (contained (policyOf mem)) mem (q .right); marks = marks-none mem rows q; counted = k; few = omega arith }
+pub marked-start : (mem rows : List ℕ) (q : Asking) {n : ℕ} → n ≡ associationCount mem → {s : ℕ} → NextClass mem rows (q .over) 1 512 s
+    → FarMarked mem rows q n s 0 0 (replicate 512 0) (replicate 512 0) 0
+marked-start mem rows q k p =
+    marked-to (far-none (seen rows false (q .by)) (seen rows false (q .over)) (contained (policyOf mem)) mem (q .right)) (marks-none mem rows q) k (omega arith) p
 
 module _ {mem rows : List ℕ} {q : Asking} {n c lacked i : ℕ} {given queue : List ℕ} {tail : ℕ} (f : FarMarked mem rows q n c lacked i given queue tail) where
-  module _ (l : c < 512) {b : Bool} (e : b ≡ classOf (seen rows false (q .over)) (policyOf mem) c) where
-    -- c is no class of the element
-    pub marked-on : not b ≡ true → FarMarked mem rows q n (c + 1) lacked i given queue tail
-    marked-on h = record { far = far-on (f .far) l e h; marks = f .marks; counted = f .counted; few = f .few }
-
-    -- it is one
-    pub marked-class : not b ≡ false → AtMarked mem rows q n c lacked i given queue tail
-    marked-class h = record { far = f; at = far-class (f .far) l e h }
+  -- at a class
+  pub marked-class : c < 512 → AtMarked mem rows q n c lacked i given queue tail
+  marked-class l = record { far = f; at = record { far = f .far; small = l; its-class = f .its-class l } }
 
   -- past the last class
   pub marked-end : 512 ≤ c → lacked ≡ lackOf (seen rows false (q .by)) (seen rows false (q .over)) (contained (policyOf mem)) (policyOf mem) (q .right)
@@ -134,20 +136,18 @@ module _ {mem rows : List ℕ} {q : Asking} {n c lacked i : ℕ} {given queue : 
 module _ {mem rows : List ℕ} {q : Asking} {n c lacked i : ℕ} {given queue : List ℕ} {tail : ℕ} (a : AtMarked mem rows q n c lacked i given queue tail) where
   -- one association more
   pub marked-more : i < n → {given′ queue′ : List ℕ} {tail′ : ℕ} → GivenMarks mem rows q (i + 1) given′ queue′ tail′ → AtMarked mem rows q n c lacked (i + 1) given′ queue′ tail′
-  marked-more l g = record { far = record { far = a .far .far; marks = g; counted = a .far .counted; few = omega arith }; at = a .at }
+  marked-more l g = record { far = record { far = a .far .far; its-class = a .far .its-class; marks = g; counted = a .far .counted; few = omega arith }; at = a .at }
 
   -- whether one of the first i associations gives the right in the class
   abbrev isMarked : Bool
   isMarked = givenByFirst (seen rows false (q .by)) (seen rows false (q .over)) (contained (policyOf mem)) mem (q .right) i c
 
   -- its mark is set: they give it
-  pub marked-given : 1 ≤ getD given c 0 → FarMarked mem rows q n (c + 1) 512 i given queue tail
-  marked-given s = record {
-    far = class-given (a .at) i (omega (arith, a .far .counted, a .far .few)) (digit-high isMarked (omega (arith, a .far .marks .is c (a .at .small))));
-    marks = a .far .marks;
-    counted = a .far .counted;
-    few = a .far .few;
-  }
+  pub marked-given : 1 ≤ getD given c 0 → {c′ : ℕ} → NextClass mem rows (q .over) (c + 1) 512 c′ → FarMarked mem rows q n c′ 512 i given queue tail
+  marked-given s p =
+      marked-to
+      (class-given (a .at) i (omega (arith, a .far .counted, a .far .few)) (digit-high isMarked (omega (arith, a .far .marks .is c (a .at .small)))))
+      (a .far .marks) (a .far .counted) (a .far .few) p
 
   -- its mark is not set, and all associations have been seen
   pub marked-lacks : n ≤ i → getD given c 0 < 1 → c ≡ lackOf (seen rows false (q .by)) (seen rows false (q .over)) (contained (policyOf mem)) (policyOf mem) (q .right)

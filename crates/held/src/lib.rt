@@ -11,7 +11,7 @@ ghost use Rattle.table.specs.Facts.{Table};
 ghost use Rattle.rule.specs.Sight.{seen};
 ghost use Rattle.held.specs.Lacking.{lackOf, lackBy, sight, Rows, permits};
 ghost use Rattle.held.specs.Giving.{GivenMarks, GivenBits};
-ghost use Rattle.held.specs.Passing.{zeroByte, NextClass};
+ghost use Rattle.held.specs.Passing.{zeroByte, zeroBytes, anyClass, NextClass};
 use rule::Asking;
 
 // What `lack` answers where the right is held.
@@ -19,6 +19,119 @@ pub const HELD: u32 = 512;
 
 // What it answers where the element has no class.
 const NO_CLASS: u32 = 0;
+
+// Whether the byte of row x in which the bit of y stands is zero, as it is where the bytes do not reach.
+fn is_zero_byte(rows: &[u8], x: u32, y: u32) -> bool
+    ensures { λ r. ⌜ r ≡ zeroByte (now (rows .entry)) x y ⌝ }
+{
+    let place = 64 * (x as usize) + (y / 8) as usize;
+    if rows.len() <= place {
+        return true;
+    }
+    rows[place] == 0
+}
+
+// Whether the word of one of the eight ids from `from` on is that of a class. No early exit: the eight are looked at together.
+fn has_class(mem: &[u32], from: u32) -> bool
+    requires { ⌜ Table (now mem) ⌝ }
+    requires { ⌜ from ≤ 504 ⌝ }
+    ensures { λ r. ⌜ r ≡ anyClass (now (mem .entry)) from 8 ⌝ }
+{
+    let mut some = false;
+    let mut k = 0;
+    while k < 8 {
+        some = some | (mem[table::KINDS + from as usize + k] == 5);
+        k += 1;
+    }
+    some
+}
+
+// The least class of the element of row x from d on, below the end of the byte in which the bit of d stands; `end` where there is none.
+fn class_in_byte(mem: &[u32], rows: &[u8], x: u32, d: u32, end: u32) -> u32
+    requires { ⌜ Table (now mem) ⌝ }
+    requires { ⌜ end ≡ d / 8 * 8 + 8 ⌝ }
+    requires { ⌜ end ≤ 512 ⌝ }
+    ensures { λ r. ⌜ NextClass (now (mem .entry)) (now (rows .entry)) x d end r ⌝ }
+{
+    if is_zero_byte(rows, x, d) {
+        return end;
+    }
+    if !has_class(mem, end - 8) {
+        return end;
+    }
+    let mut y = d;
+    while y < end {
+        if rule::is_class_of(mem, rows, true, x, y) {
+            return y;
+        }
+        y += 1;
+    }
+    end
+}
+
+// A byte as a word.
+fn wide(b: u8) -> u32
+    ensures { λ r. ⌜ r ≡ b ⌝ }
+    ensures { λ r. ⌜ r < 256 ⌝ }
+{
+    b as u32
+}
+
+// Whether the eight bytes of row x among which the bit of y stands are all there and all zero.
+fn are_zero_bytes(rows: &[u8], x: u32, y: u32) -> bool
+    ensures { λ r. ⌜ r ≡ zeroBytes (now (rows .entry)) x y ⌝ }
+{
+    let from = 64 * (x as usize) + 8 * (y / 64) as usize;
+    if rows.len() < from + 8 {
+        return false;
+    }
+    let mut sum = 0;
+    let mut i = 0;
+    while i < 8 {
+        sum = sum + wide(rows[from + i]);
+        i += 1;
+    }
+    sum == 0
+}
+
+// The least class of the element of row x from d on, below the end of the eight bytes among which the bit of d stands; `end` where there is none.
+// A byte without a bit, or whose ids are of no class, is passed by.
+fn class_in_bytes(mem: &[u32], rows: &[u8], x: u32, d: u32, end: u32) -> u32
+    requires { ⌜ Table (now mem) ⌝ }
+    requires { ⌜ end ≡ d / 64 * 64 + 64 ⌝ }
+    requires { ⌜ end ≤ 512 ⌝ }
+    ensures { λ r. ⌜ NextClass (now (mem .entry)) (now (rows .entry)) x d end r ⌝ }
+{
+    if are_zero_bytes(rows, x, d) {
+        return end;
+    }
+    let mut c = d;
+    while c < end {
+        let stop = c / 8 * 8 + 8;
+        c = class_in_byte(mem, rows, x, c, stop);
+        if c < stop {
+            return c;
+        }
+    }
+    end
+}
+
+// The least class of the element of row x from c on, 512 where there is none: eight bytes without a bit are passed by.
+pub fn next_class(mem: &[u32], rows: &[u8], x: u32, c: u32) -> u32
+    requires { ⌜ Table (now mem) ⌝ }
+    requires { ⌜ c ≤ 512 ⌝ }
+    ensures { λ r. ⌜ NextClass (now (mem .entry)) (now (rows .entry)) x c 512 r ⌝ }
+{
+    let mut d = c;
+    while d < 512 {
+        let end = d / 64 * 64 + 64;
+        d = class_in_bytes(mem, rows, x, d, end);
+        if d < end {
+            return d;
+        }
+    }
+    512
+}
 
 // Marks the classes in which association i gives the right: climbs on from its target.
 fn give_by_climb(
@@ -56,12 +169,8 @@ fn lack_by_climb(mem: &[u32], rows: &[u8], q: Asking) -> u32
     let mut tail = 0;
     let mut lacked = NO_CLASS;
     let mut i = 0;
-    let mut c = 1;
+    let mut c = next_class(mem, rows, q.over, 1);
     'classes: while c < 512 {
-        if !rule::is_class_of(mem, rows, false, q.over, c) {
-            c += 1;
-            continue 'classes;
-        }
         while given[c as usize] < 1 {
             if n <= i {
                 lacked = c;
@@ -71,7 +180,7 @@ fn lack_by_climb(mem: &[u32], rows: &[u8], q: Asking) -> u32
             i += 1;
         }
         lacked = HELD;
-        c += 1;
+        c = next_class(mem, rows, q.over, c + 1);
     }
     lacked
 }
@@ -90,53 +199,6 @@ fn give_by_index(mem: &[u32], idx: &[u8], q: Asking, i: usize, given: &mut [u8])
     }
     let target = table::target_at(mem, i);
     index::join_row(idx, target, given);
-}
-
-// Whether the byte of row x in which the bit of y stands is zero, as it is where the bytes do not reach.
-fn is_zero_byte(idx: &[u8], x: u32, y: u32) -> bool
-    ensures { λ r. ⌜ r ≡ zeroByte (now (idx .entry)) x y ⌝ }
-{
-    let place = 64 * (x as usize) + (y / 8) as usize;
-    if idx.len() <= place {
-        return true;
-    }
-    idx[place] == 0
-}
-
-// The least class of the element of row x from d on, below the end of the byte in which the bit of d stands; `end` where there is none.
-fn class_in_byte(mem: &[u32], idx: &[u8], x: u32, d: u32, end: u32) -> u32
-    requires { ⌜ Table (now mem) ⌝ }
-    requires { ⌜ end ≡ d / 8 * 8 + 8 ⌝ }
-    ensures { λ r. ⌜ NextClass (now (mem .entry)) (now (idx .entry)) x d end r ⌝ }
-{
-    if is_zero_byte(idx, x, d) {
-        return end;
-    }
-    let mut y = d;
-    while y < end {
-        if rule::is_class_of(mem, idx, true, x, y) {
-            return y;
-        }
-        y += 1;
-    }
-    end
-}
-
-// The least class of the element of row x from c on, 512 where there is none: a byte without a bit is passed by.
-fn next_class(mem: &[u32], idx: &[u8], x: u32, c: u32) -> u32
-    requires { ⌜ Table (now mem) ⌝ }
-    requires { ⌜ c ≤ 512 ⌝ }
-    ensures { λ r. ⌜ NextClass (now (mem .entry)) (now (idx .entry)) x c 512 r ⌝ }
-{
-    let mut d = c;
-    while d < 512 {
-        let end = d / 8 * 8 + 8;
-        d = class_in_byte(mem, idx, x, d, end);
-        if d < end {
-            return d;
-        }
-    }
-    512
 }
 
 // What lacks for the right to be held, by the bits of an index.

@@ -2,7 +2,7 @@
 -- Assumes nothing.
 use mathlib.Core.Path.{_≡_, refl, sym, ap, ap₂, subst₃}
 use mathlib.Core.Bool.{true, cond}
-use mathlib.Core.List.{List, [], _∷_, map}
+use mathlib.Core.List.{List, [], _∷_}
 use Prim.Native.Nat.{ℕ}
 use Rattle.model.specs.Lists.{allOf}
 use Rattle.model.specs.Command.{Command, fits, commandLines}
@@ -17,19 +17,7 @@ use Rattle.table.proofs.Outcomes.{never}
 use Rattle.command.specs.Commanded.{Commanded, wordsAfter}
 use Rattle.command.proofs.Performed.{refused-so, done-so}
 use Rattle.command.proofs.Theorems.{unique}
-use Rattle.history.specs.Steps.{Step, Meets, Run, none, then}
-
--- the commands of a run, done or refused
-abbrev pub commandsOf : List Step → List Command
-commandsOf steps = map (λ (s : Step). s .command) steps
-
--- a run of these commands
-pub record Ran (words bytes : List ℕ) (commands : List Command) : Type 0 where
-  pub steps : List Step
-  pub words′ : List ℕ
-  pub bytes′ : List ℕ
-  pub run : Run words bytes steps words′ bytes′
-  pub are : commandsOf steps ≡ commands
+use Rattle.history.specs.Steps.{Step, Meets, Run, none, then, commandsOf, Ran}
 
 -- what a command on these words and bytes may answer and leave
 record Made (words bytes : List ℕ) (c : Command) : Type 0 where

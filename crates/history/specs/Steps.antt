@@ -3,7 +3,7 @@
 -- Assumes nothing.
 use mathlib.Core.Path.{_≡_}
 use mathlib.Core.Bool.{Bool, true, false, cond}
-use mathlib.Core.List.{List, [], _∷_}
+use mathlib.Core.List.{List, [], _∷_, map}
 use Prim.Native.Nat.{ℕ}
 use Rattle.model.specs.Policy.{Policy, emptyPolicy}
 use Rattle.model.specs.Command.{Command, fits}
@@ -66,3 +66,15 @@ isDone (Refused n) = false
 unfoldable pub logOf : List Step → List Command
 logOf [] = []
 logOf (s ∷ steps) = cond (isDone (s .outcome)) (s .command ∷ logOf steps) (logOf steps)
+
+-- the commands of a run, done or refused
+abbrev pub commandsOf : List Step → List Command
+commandsOf steps = map (λ (s : Step). s .command) steps
+
+-- a run of these commands
+pub record Ran (words bytes : List ℕ) (commands : List Command) : Type 0 where
+  pub steps : List Step
+  pub words′ : List ℕ
+  pub bytes′ : List ℕ
+  pub run : Run words bytes steps words′ bytes′
+  pub are : commandsOf steps ≡ commands

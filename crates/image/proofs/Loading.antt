@@ -1,7 +1,7 @@
 -- What load answers and leaves, return by return.
 -- Assumes nothing.
 use mathlib.Core.Path.{_≡_, refl, sym, ap, _∙_}
-use mathlib.Core.Bool.{true, not}
+use mathlib.Core.Bool.{not}
 use mathlib.Core.List.{List, [], _++_, append-nil}
 use Prim.Native.Nat.{ℕ, _+_, _≤_, _<_}
 use native.Mathlib.Omega.{arith}
@@ -14,17 +14,10 @@ use Rattle.model.specs.Image.{policyIn, imageLines, loadLines}
 use Rattle.model.specs.Calls.{kept}
 use Rattle.model.proofs.Refusals.{first-refused, none-accepted, refusal-none, refusal-first}
 use Rattle.group.specs.Group.{laid}
-use Rattle.table.specs.declared.Outcome.{Outcome}
 use Rattle.table.specs.declared.Outcome.the-variants.{Done, Refused}
-use Rattle.table.specs.View.{emptyTable}
-use Rattle.table.specs.Answers.{told, left, newTable, Left}
+use Rattle.table.specs.Answers.{told, left}
 use Rattle.unpack.specs.Words.{tableOf}
 use Rattle.image.specs.Answers.{loadTable, Read}
-
--- `new` on 8,192 words leaves the empty table
-pub made-empty : (r : Outcome) (words : List ℕ) {words′ : List ℕ} → length words ≡ 8192 → left r words′ ≡ newTable words → words′ ≡ emptyTable
-unfolding newTable answer kept
-made-empty r words n e = let k : eqb (length words) 8192 ≡ true = eq-eqb (length words) 8192 n in ap (λ (b : Left). b .words) e ∙ rw k
 
 -- another length
 pub other-length : (s words : List ℕ) → (length words ≡ 8192 → ⊥) → left (Refused 1) words ≡ loadTable s words

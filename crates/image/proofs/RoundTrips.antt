@@ -9,12 +9,12 @@ use native.Mathlib.Omega.{arith}
 use borrow.Author.Tests.{eq-eqb, le-ltb}
 use lib.ListN.{length, take, drop}
 use lib.Seq.{take-append-seam, drop-append-seam}
+use Rattle.model.specs.Bits.{areBytes}
 use Rattle.model.specs.Sound.{Sound}
 use Rattle.model.specs.Refusal.{end, past, accepted}
 use Rattle.model.specs.Image.{policyIn, imageOf, imageLines, readImage}
 use Rattle.model.specs.Calls.{save}
 use Rattle.model.proofs.Refusals.{accepted-none}
-use Rattle.model.proofs.Image.Bits.{areBytes}
 use Rattle.model.proofs.Image.Images.{policy-read-back, image-written-back, image-unique}
 use Rattle.table.specs.declared.Outcome.{Outcome}
 use Rattle.table.specs.declared.Outcome.the-variants.{Done}

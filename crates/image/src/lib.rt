@@ -1,7 +1,7 @@
 // The policy as bytes: load makes a table of an image, save makes an image of a table.
 use table::Outcome;
 ghost use mathlib.Core.Path.{_≡_};
-ghost use lib.ListN.{length};
+ghost use lib.ListN.{replicate};
 ghost use Rattle.model.specs.Calls.{save as saving};
 ghost use Rattle.table.specs.View.{memory};
 ghost use Rattle.table.specs.Answers.{left as leftWords};
@@ -29,9 +29,9 @@ fn table_refusal(mem: &[u32]) -> u32
     0
 }
 
-// The image's refusal number, 11 to 14; 0 where it is accepted, and then the words are the table of its policy.
+// The image's refusal number, 11 to 14; 0 where it is accepted, and then the words, all zero at first, are the table of its policy.
 fn read(s: &[u8], mem: &mut [u32]) -> u32
-    requires { ⌜ length (now mem) ≡ 8192 ⌝ }
+    requires { ⌜ now mem ≡ replicate 8192 0 ⌝ }
     ensures { λ r. ⌜ Read (now (s .entry)) r (now (mem .exit)) ⌝ }
 {
     let sizes = measure::refusal(s);
@@ -41,7 +41,7 @@ fn read(s: &[u8], mem: &mut [u32]) -> u32
     if !screen::is_stowable(s) {
         return 13;
     }
-    table::new(mem);
+    table::mark(mem);
     unpack::unpack(s, mem);
     table_refusal(mem)
 }

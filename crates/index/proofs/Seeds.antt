@@ -42,7 +42,7 @@ one-byte : (j : ℕ) → j < 8 → 128 / 2 ^ j < 256
 one-byte j h = rw (one-bit j h) (rw (length-tabulate 8 (eqb j)) at (num-lt (tabulate 8 (eqb j))))
 
 -- bit i of the byte whose bit is j
-one-odd : (i j : ℕ) → i < 8 → j < 8 → odd (128 / 2 ^ j / 2 ^ (7 - i)) ≡ eqb j i
+pub one-odd : (i j : ℕ) → i < 8 → j < 8 → odd (128 / 2 ^ j / 2 ^ (7 - i)) ≡ eqb j i
 one-odd i j hi hj = rw (one-bit j hj) (bit-of-byte (eqb j) i hi)
 
 -- it is 1 only where i is j

@@ -2,5 +2,8 @@ pub mod Numbered
 pub mod Pairs
 pub mod Parts
 pub mod Placing
+pub mod Following
+pub mod Lifting
+pub mod Above
 pub mod Cycle
 pub mod Wrong

@@ -8,8 +8,9 @@ ghost use Rattle.model.specs.Sound.{assignmentPairs, associationPairs, prohibit
 ghost use Rattle.model.specs.Image.{namesWrong};
 ghost use Rattle.table.specs.Layout.{assignmentCount, associationCount, prohibitionCount};
 ghost use Rattle.table.specs.View.{policyOf, assignmentAt, associationAt, prohibitionAt};
-ghost use Rattle.table.specs.Facts.{Table};
+ghost use Rattle.table.specs.Facts.{Table, FirstOf};
 ghost use Rattle.links.specs.Returning.{ownerFits, isPlaced, returnsBy};
+ghost use Rattle.links.specs.Ranks.{lifted, ranksOf, isAbove};
 
 // Whether the two of assignment i may be assigned.
 fn is_assignment_paired(mem: &[u32], i: usize) -> bool
@@ -159,8 +160,63 @@ fn returns_by(mem: &[u32], idx: &[u8]) -> bool
     false
 }
 
+// Lifts the child of assignment i above its container: its rank becomes the next one, unless it is higher already. No rank is above 512.
+fn lift(mem: &[u32], ranks: &mut [u32; 512], i: usize)
+    requires { ⌜ Table (now mem) ⌝ }
+    requires { ⌜ i < assignmentCount (now mem) ⌝ }
+    ensures { λ _. ⌜ now (ranks .exit) ≡ lifted (now (mem .entry)) i (now (ranks .entry)) ⌝ }
+{
+    let rank = ranks[table::container_at(mem, i) as usize];
+    let child = table::child_at(mem, i) as usize;
+    if rank < ranks[child] {
+        return;
+    }
+    if 511 < rank {
+        return;
+    }
+    ranks[child] = rank + 1;
+}
+
+// A rank for each element: every child lifted above its container, in the assignments' order and then against it. Where ids rise along chains, or
+// fall, each child is then above its container.
+fn ranks(mem: &[u32]) -> [u32; 512]
+    requires { ⌜ Table (now mem) ⌝ }
+    ensures { λ r. ⌜ r ≡ ranksOf (now (mem .entry)) ⌝ }
+{
+    let mut ranks = [0u32; 512];
+    let n = table::assignment_count(mem);
+    let mut i = 0;
+    while i < n {
+        lift(mem, &mut ranks, i);
+        i += 1;
+    }
+    while 0 < i {
+        i -= 1;
+        lift(mem, &mut ranks, i);
+    }
+    ranks
+}
+
+// Whether each assignment's child has a higher rank than its container.
+fn are_above(mem: &[u32], ranks: &[u32; 512]) -> bool
+    requires { ⌜ Table (now mem) ⌝ }
+    ensures { λ r. ⌜ r ≡ allOf (isAbove (now (ranks .entry))) (policyOf (now (mem .entry)) .assignments) ⌝ }
+{
+    let n = table::assignment_count(mem);
+    let mut i = 0;
+    while i < n {
+        let child = table::child_at(mem, i) as usize;
+        let container = table::container_at(mem, i) as usize;
+        if ranks[child] <= ranks[container] {
+            return false;
+        }
+        i += 1;
+    }
+    true
+}
+
 // Whether a chain of assignments returns to its start, where all that they name is there: the table's index tells.
-fn has_cycle(mem: &[u32]) -> bool
+fn has_cycle_by_index(mem: &[u32]) -> bool
     requires { ⌜ Table (now mem) ⌝ }
     requires { ⌜ pairsFit (policyOf (now mem)) ≡ true ⌝ }
     ensures { λ r. ⌜ r ≡ not (noCycle (policyOf (now (mem .entry)))) ⌝ }
@@ -170,32 +226,69 @@ fn has_cycle(mem: &[u32]) -> bool
     returns_by(mem, &idx)
 }
 
-// Whether element x is not there, is a class, or is assigned.
-fn is_placed(mem: &[u32], x: u32) -> bool
+// Whether a chain of assignments returns to its start, where all that they name is there: none does where each child ranks above its container, and
+// else the table's index tells.
+fn has_cycle(mem: &[u32]) -> bool
+    requires { ⌜ Table (now mem) ⌝ }
+    requires { ⌜ pairsFit (policyOf (now mem)) ≡ true ⌝ }
+    ensures { λ r. ⌜ r ≡ not (noCycle (policyOf (now (mem .entry)))) ⌝ }
+{
+    let ranks = ranks(mem);
+    if are_above(mem, &ranks) {
+        return false;
+    }
+    has_cycle_by_index(mem)
+}
+
+// The first assignment whose child is above x, looked for from the first whose child is x or above.
+fn next_of(mem: &[u32], x: u32, first: usize) -> usize
     requires { ⌜ Table (now mem) ⌝ }
     requires { ⌜ x < 512 ⌝ }
+    requires { ⌜ FirstOf (now mem) x first ⌝ }
+    ensures { λ r. ⌜ FirstOf (now (mem .entry)) (x + 1) r ⌝ }
+{
+    let n = table::assignment_count(mem);
+    let mut i = first;
+    while i < n {
+        if x < table::child_at(mem, i) {
+            return i;
+        }
+        i += 1;
+    }
+    i
+}
+
+// Whether element x is not there, is a class, or is assigned: whether its assignments, which stand from `first` on, end behind it.
+fn is_placed(mem: &[u32], x: u32, first: usize, next: usize) -> bool
+    requires { ⌜ Table (now mem) ⌝ }
+    requires { ⌜ x < 512 ⌝ }
+    requires { ⌜ FirstOf (now mem) x first ⌝ }
+    requires { ⌜ FirstOf (now mem) (x + 1) next ⌝ }
     ensures { λ r. ⌜ r ≡ isPlaced (policyOf (now (mem .entry))) x ⌝ }
 {
+    if first < next {
+        return true;
+    }
     let kind = table::kind_of(mem, x);
     if kind == 0 {
         return true;
     }
-    if kind == kinds::CLASS {
-        return true;
-    }
-    table::first_of(mem, x) < table::first_of(mem, x + 1)
+    kind == kinds::CLASS
 }
 
-// Whether each element but a class is assigned.
+// Whether each element but a class is assigned: elements and assignments are gone through together.
 fn are_all_assigned(mem: &[u32]) -> bool
     requires { ⌜ Table (now mem) ⌝ }
     ensures { λ r. ⌜ r ≡ allAssigned (policyOf (now (mem .entry))) ⌝ }
 {
+    let mut first = table::first_of(mem, 1);
     let mut x = 1;
     while x < 512 {
-        if !is_placed(mem, x) {
+        let next = next_of(mem, x, first);
+        if !is_placed(mem, x, first, next) {
             return false;
         }
+        first = next;
         x += 1;
     }
     true

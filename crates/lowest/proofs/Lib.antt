@@ -7,3 +7,5 @@ pub mod Taken
 pub mod InOrder
 pub mod Queued
 pub mod Rising
+pub mod Walked
+pub mod Enough

@@ -8,7 +8,7 @@ use native.Mathlib.Omega.{arith}
 use Rattle.model.specs.Lists.{In, first, those, tabulate, one, empty, before, lowestOf}
 use Rattle.model.specs.Policy.{Association, associationFields}
 use Rattle.model.specs.Explain.{lowestAssociation}
-use Rattle.model.proofs.Truth.{clash, those-pass, not-empty, in-right}
+use Rattle.model.proofs.Truth.{clash, passes, fails, tested, those-pass, not-empty, in-right}
 use Rattle.model.proofs.Decisions.Lowest.{lowest-in}
 use Rattle.table.specs.View.{associationAt}
 use Rattle.lowest.specs.Named.{named, isBefore, isLower, lowerName}
@@ -67,6 +67,13 @@ module _ {mem : List ℕ} {f : Association → Bool} {i name : ℕ} (h : LowestN
   -- with one that passes there are some
   some-far : f (associationAt mem i) ≡ true → empty (those f (tabulate (i + 1) (associationAt mem))) ≡ true → ⊥
   some-far e z = clash (sym (ap empty (far-with e)) ∙ z) (not-empty (in-right far first))
+
+  -- where there are some, so there are with one more
+  pub some-more : empty far ≡ false → empty (those f (tabulate (i + 1) (associationAt mem))) ≡ false
+  some-more s = elim (tested (f (associationAt mem i))) [
+    | passes e ↦ ap empty (far-with e) ∙ not-empty (in-right far first)
+    | fails e ↦ ap empty (far-without e) ∙ s
+  ]
 
   -- an association that passes and is not before another that passes changes nothing
   pub named-kept : f (associationAt mem i) ≡ true → (a : Association) → In a far → before (associationFields (associationAt mem i)) (associationFields a) ≡ false

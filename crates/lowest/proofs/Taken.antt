@@ -38,7 +38,7 @@ unfolding gives offers
 gives-is mem q c a = refl
 
 -- zeros have no right in their set
-zeros-give-none : (mem : List ℕ) (q : Asking) (c : ℕ) → givesIn mem q c (named mem 0) ≡ false
+pub zeros-give-none : (mem : List ℕ) (q : Asking) (c : ℕ) → givesIn mem q c (named mem 0) ≡ false
 unfolding gives hasRight
 zeros-give-none mem q c =
     let e : 0 / 2 ^ q .right ≡ 0 = div-eq-of-lt (pow-pos (q .right)) in
@@ -56,7 +56,7 @@ unfolding offers sight
 offered-by-rows t a = rw (t .user (a .attribute), t .element (a .target))
 
 -- what one class names
-each-class : {mem : List ℕ} {q : Asking} {i : ℕ} {names : List ℕ} → LowestOfFirst mem q i names → (c : ℕ) → c < 512
+pub each-class : {mem : List ℕ} {q : Asking} {i : ℕ} {names : List ℕ} → LowestOfFirst mem q i names → (c : ℕ) → c < 512
     → LowestNamed mem (givesIn mem q c) i (getD names c 0)
 each-class l c h = record { few = l .few c h; is = l .is c h; none = l .none c h }
 

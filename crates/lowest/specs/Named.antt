@@ -10,7 +10,9 @@ use Rattle.model.specs.Policy.{Association, associationFields}
 use Rattle.model.specs.Contain.{contained}
 use Rattle.model.specs.Rule.{gives}
 use Rattle.model.specs.Explain.{lowestAssociation}
+use Rattle.table.specs.Layout.{associationCount}
 use Rattle.table.specs.View.{policyOf, associationAt}
+use Rattle.rule.specs.Parts.{classOf}
 use Rattle.rule.specs.declared.Asking.{Asking}
 
 -- the association that a name names, zeros for none
@@ -57,3 +59,10 @@ pub record LowestOfFirst (mem : List ℕ) (q : Asking) (i : ℕ) (names : List �
   pub few : (c : ℕ) → c < 512 → getD names c 0 ≤ i
   pub is : (c : ℕ) → c < 512 → named mem (getD names c 0) ≡ lowestAssociation (authorizing mem q i c)
   pub none : (c : ℕ) → c < 512 → empty (authorizing mem q i c) ≡ true → getD names c 0 ≡ 0
+
+-- in each class of the element, what is named is the lowest association that authorizes the right there, none where there is none
+pub record LowestOfClasses (mem : List ℕ) (q : Asking) (names : List ℕ) : Type 0 where
+  pub size : length names ≡ 512
+  pub few : (c : ℕ) → c < 512 → getD names c 0 ≤ associationCount mem
+  pub is : (c : ℕ) → classOf (contained (policyOf mem) (q .element)) (policyOf mem) c ≡ true
+      → named mem (getD names c 0) ≡ lowestAssociation (authorizing mem q (associationCount mem) c)

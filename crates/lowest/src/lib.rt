@@ -7,7 +7,7 @@ ghost use lib.ListN.{length};
 ghost use Rattle.table.specs.Layout.{associationCount};
 ghost use Rattle.table.specs.Facts.{Table};
 ghost use Rattle.held.specs.Lacking.{Rows};
-ghost use Rattle.lowest.specs.Named.{isBefore, isLower, isLowerAtTarget, lowerName, NamesOfFirst, LoweredAbove, LowestOfFirst};
+ghost use Rattle.lowest.specs.Named.{isBefore, isLower, isLowerAtTarget, lowerName, NamesOfFirst, LoweredAbove, LowestOfFirst, LowestOfClasses};
 ghost use Rattle.lowest.specs.Marked.{associationsRise, firstName, ClassesQueued, FirstQueued, LowestMarked};
 use rule::Asking;
 
@@ -214,14 +214,14 @@ fn name_first(
     t
 }
 
-// For each class the name of the lowest association that authorizes the right in it, where the associations rise: what their targets are within is
-// climbed once.
+// In each class of the element the name of the lowest association that authorizes the right there, where the associations rise: they are gone through
+// once, as far as the classes need them, and what their targets are within is climbed once.
 fn lowest_of_rising(mem: &[u32], rows: &[u8], q: Asking) -> [u32; 512]
     requires { ⌜ Table (now mem) ⌝ }
     requires { ⌜ Rows (now mem) (now rows) false q ⌝ }
     requires { ⌜ q .right < 32 ⌝ }
     requires { ⌜ associationsRise (now mem) ≡ true ⌝ }
-    ensures { λ r. ⌜ LowestOfFirst (now (mem .entry)) q (associationCount (now (mem .entry))) r ⌝ }
+    ensures { λ r. ⌜ LowestOfClasses (now (mem .entry)) q r ⌝ }
 {
     let n = table::association_count(mem);
     let mut names = [0u32; 512];
@@ -229,19 +229,23 @@ fn lowest_of_rising(mem: &[u32], rows: &[u8], q: Asking) -> [u32; 512]
     let mut queue = [0u32; 512];
     let mut tail = 0;
     let mut i = 0;
-    while i < n {
-        tail = name_first(mem, rows, q, i, &mut names, &mut seen, &mut queue, tail);
-        i += 1;
+    let mut c = held::next_class(mem, rows, q.over, 1);
+    while c < 512 {
+        while i < n && names[c as usize] == 0 {
+            tail = name_first(mem, rows, q, i, &mut names, &mut seen, &mut queue, tail);
+            i += 1;
+        }
+        c = held::next_class(mem, rows, q.over, c + 1);
     }
     names
 }
 
-// For each class the name of the lowest association that authorizes the right in it.
+// In each class of the element the name of the lowest association that authorizes the right there.
 pub fn lowest(mem: &[u32], rows: &[u8], q: Asking) -> [u32; 512]
     requires { ⌜ Table (now mem) ⌝ }
     requires { ⌜ Rows (now mem) (now rows) false q ⌝ }
     requires { ⌜ q .right < 32 ⌝ }
-    ensures { λ r. ⌜ LowestOfFirst (now (mem .entry)) q (associationCount (now (mem .entry))) r ⌝ }
+    ensures { λ r. ⌜ LowestOfClasses (now (mem .entry)) q r ⌝ }
 {
     if are_rising(mem) {
         return lowest_of_rising(mem, rows, q);

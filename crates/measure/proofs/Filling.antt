@@ -13,10 +13,10 @@ use lib.ListN.{length, take, drop, getD, length-drop, drop-of-length-le}
 use lib.Pow.{pow-pos}
 use lib.Seq.{take-all}
 use Rattle.model.specs.Lists.{allOf}
-use Rattle.model.specs.Bits.{digit, numOf, bitsOf, numAt}
+use Rattle.model.specs.Bits.{digit, numOf, bitsOf, numAt, areBytes}
 use Rattle.model.specs.Image.{otherForm}
 use Rattle.model.proofs.Truth.{and-join}
-use Rattle.model.proofs.Image.Bits.{areBytes, length-bitsOf}
+use Rattle.model.proofs.Image.Bits.{length-bitsOf}
 use Rattle.model.proofs.Image.Packed.{form-is}
 use Rattle.bits.specs.Cursor.{Taken}
 use Rattle.measure.specs.Sizes.{straysFrom}

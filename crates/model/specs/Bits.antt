@@ -3,8 +3,9 @@
 use mathlib.Core.Bool.{Bool, true, false}
 use mathlib.Core.List.{List, [], _∷_, _++_}
 use Prim.Native.Nat.{ℕ, zero, suc, _+_, _*_, _-_, _/_, _%_, _^_}
-use lib.Dec.{eqb}
+use lib.Dec.{eqb, ltb}
 use lib.ListN.{length, take, drop, replicate}
+use Rattle.model.specs.Lists.{allOf}
 
 -- a bit as a number
 unfoldable pub digit : Bool → ℕ
@@ -42,3 +43,7 @@ packed l = bytesOf ((length l + 7) / 8) (l ++ replicate ((length l + 7) / 8 * 8 
 -- the number that n bits spell, from the place `at` on
 unfoldable pub numAt : List Bool → (at n : ℕ) → ℕ
 numAt l at n = numOf (take n (drop at l))
+
+-- each is a byte
+abbrev pub areBytes : List ℕ → Bool
+areBytes s = allOf (λ b. ltb b 256) s

@@ -41,14 +41,13 @@ use Rattle.explain.specs.Answers.{numbersOf, numbers}
 use Rattle.explain.specs.declared.Explanation.{Explanation}
 use Rattle.explain.specs.declared.Explanation.the-variants as explanation
 use Rattle.explain.proofs.Theorems as explained
-use Rattle.rows.specs.Rows.{rowOf}
+use Rattle.rows.specs.Rows.{rowOf, numbersIn}
 use Rattle.rows.specs.declared.Row.{Row}
-use Rattle.rows.proofs.Theorems.{numbersIn, as-numbers}
+use Rattle.rows.proofs.Theorems.{as-numbers}
 use Rattle.command.proofs.Theorems.{refusals-exact, done-exact, policy-after}
-use Rattle.history.specs.Steps.{Step, Meets, Run, none, then}
+use Rattle.history.specs.Steps.{Step, Meets, Run, none, then, commandsOf}
 use Rattle.history.proofs.Beginnings.{Kept}
 use Rattle.history.proofs.Stepped.{step-kept}
-use Rattle.history.proofs.OneRun.{commandsOf}
 use Rattle.policy.specs.Allows as allows
 use Rattle.policy.specs.Cases.{Decides, FirstRow, Explains, Commands, causeIn, numberIn, causeOf, numberOf, structOf, RequestAnswered, Answered}
 

@@ -1,3 +1,4 @@
 pub mod Refusing
+pub mod Containing
 pub mod InTheHouse
 pub mod Theorems

@@ -37,10 +37,10 @@ use Rattle.explain.specs.declared.Explanation.{Explanation}
 use Rattle.explain.specs.declared.Explanation.the-variants as explaining
 use Rattle.explain.proofs.Theorems as explained
 use Rattle.explain.proofs.Answered.{one-explanation}
-use Rattle.rows.specs.Rows.{rowOf, leaving}
+use Rattle.rows.specs.Rows.{rowOf, leaving, numbersIn}
 use Rattle.rows.specs.declared.Row.{Row}
 use Rattle.rows.proofs.Unique.{explain-unique}
-use Rattle.rows.proofs.Theorems.{numbersIn, as-numbers}
+use Rattle.rows.proofs.Theorems.{as-numbers}
 use Rattle.image.specs.declared.Saved.{Saved}
 use Rattle.image.specs.declared.Saved.the-variants as saved
 use Rattle.image.proofs.Theorems.{load-refuses, load-refused, load-leaves, save-refuses, save-refused, save-leaves}

@@ -24,9 +24,10 @@ use Rattle.command.proofs.Theorems as command
 use Rattle.history.proofs.OneRun.{run-exists}
 use Rattle.history.proofs.Theorems.{run-kept}
 use Rattle.history.proofs.Theorems as runs
-use Rattle.policy.specs.Claims.{RefusalsExact, GrantExact, IndexedOverAnyBytes, IndexedAsPlain, RowsExact, ImageOfPolicy, PolicyOfImage, History, IndexBlind, Unique}
+use Rattle.policy.specs.Claims.{RefusalsExact, ContainsExact, IndexExact, GrantExact, IndexedOverAnyBytes, IndexedAsPlain, RowsExact, ImageOfPolicy, PolicyOfImage, History, IndexBlind, Unique}
 use Rattle.policy.specs.Cases.{SmallHouse}
 use Rattle.policy.proofs.InTheHouse.{run-policy, fit-in-each, at-home, answered}
+use Rattle.policy.proofs.Containing.{contains-within, contains-outside, is-index-same, is-index-other, build-done, build-index-of, build-bit, build-zero-row, build-zero-column}
 use Rattle.policy.proofs.Refusing.{new-refuses, load-refusals, save-refusals, build-refuses, is-index-refuses, contains-refuses, explain-refuses, explain-structs-refuses}
 
 -- each refusal of each call is given exactly if its line holds and none before it does, and a refused call writes nothing
@@ -44,6 +45,25 @@ refusals-exact = record {
   explain = explain-structs-refuses;
   command = λ words bytes c r words′ bytes′ k.
       record { exactly = command.refusals-exact k; untouched = λ n. command.refused-leaves-all k };
+}
+
+-- contains answers within exactly where x is within y by chains of assignments, and outside exactly where it is not
+pub contains-exact : ContainsExact
+contains-exact = record {
+  within = contains-within;
+  outside = contains-outside;
+}
+
+-- is_index tells exactly whether the bytes are the table's index, and build_index makes them so, bit by bit
+pub index-exact : IndexExact
+index-exact = record {
+  same = is-index-same;
+  other = is-index-other;
+  done = build-done;
+  built = build-index-of;
+  bits = build-bit;
+  row-0 = build-zero-row;
+  column-0 = build-zero-column;
 }
 
 -- the plain decision grants, and denies, exactly where 01's rule does over chains of assignments; an element in no class is denied

@@ -19,8 +19,7 @@ use Rattle.decide.specs.declared.Decision.the-variants as decision
 use Rattle.explain.specs.declared.Explanation.{Explanation}
 use Rattle.explain.specs.declared.Explanation.the-variants as explanation
 use Rattle.rows.specs.declared.Row.{Row}
-use Rattle.history.specs.Steps.{Step, Run}
-use Rattle.history.proofs.OneRun.{commandsOf, Ran}
+use Rattle.history.specs.Steps.{Step, Run, commandsOf, Ran}
 use Rattle.policy.specs.Allows as allows
 
 -- What is expected in a case, as the result of each call: of a decision

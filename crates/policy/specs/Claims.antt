@@ -2,14 +2,15 @@
 -- them: the theorem `refusals-exact` is of type `RefusalsExact`, and so on.
 -- Assumes nothing.
 use mathlib.Core.Path.{_≡_}
-use mathlib.Core.Bool.{true}
+use mathlib.Core.Bool.{true, false}
 use mathlib.Core.List.{List, _++_}
 use mathlib.Core.Logic.{_↔_}
-use Prim.Native.Nat.{ℕ, _≤_}
+use Prim.Native.Nat.{ℕ, _≤_, _<_}
 use lib.Dec.{eqb}
 use lib.ListN.{length, take, drop}
+use Rattle.model.specs.Bits.{areBytes}
 use Rattle.model.specs.Lists.{In}
-use Rattle.model.specs.Policy.{Policy}
+use Rattle.model.specs.Policy.{Policy, isThere}
 use Rattle.model.specs.Contain.{Within, contained}
 use Rattle.model.specs.Sound.{Sound}
 use Rattle.model.specs.Refusal.{Line, First, None}
@@ -17,10 +18,9 @@ use Rattle.model.specs.Request.{Alternative, argumentsOf, kindsOf, alternatives
 use Rattle.model.specs.Explain.{rows as rowsFor, explainLines}
 use Rattle.model.specs.Command.{Command, newLines, commandLines}
 use Rattle.model.specs.Image.{imageOf, loadLines, saveLines}
-use Rattle.model.specs.Index.{indexOf, indexLines, containLines}
+use Rattle.model.specs.Index.{indexOf, bitAt, indexLines, containLines}
 use Rattle.model.specs.Calls.{lent}
 use Rattle.model.specs.Decided.{ClassOf, Satisfied, Lowest}
-use Rattle.model.proofs.Image.Bits.{areBytes}
 use Rattle.table.specs.Layout.{wordCount}
 use Rattle.table.specs.View.{holdsTable, policyOf, memory}
 use Rattle.table.specs.declared.Outcome.{Outcome}
@@ -33,13 +33,13 @@ use Rattle.request.specs.Asks.{requestOf}
 use Rattle.request.specs.declared.Request.{Request}
 use Rattle.decide.specs.declared.Decision.{Decision}
 use Rattle.decide.specs.declared.Decision.the-variants as decision
-use Rattle.decide.proofs.Theorems.{ByBits}
+use Rattle.decide.specs.Results.{ByBits}
 use Rattle.explain.specs.Answers.{numbers}
 use Rattle.explain.specs.declared.Explanation.{Explanation}
 use Rattle.explain.specs.declared.Explanation.the-variants as explanation
-use Rattle.explain.proofs.Theorems.{AsDecided, RowsExact as RowsInFront, GrantRows, DenyRows}
+use Rattle.explain.specs.Results.{AsDecided, RowsExact as RowsInFront, GrantRows, DenyRows}
 use Rattle.rows.specs.declared.Row.{Row}
-use Rattle.rows.proofs.Theorems.{numbersIn}
+use Rattle.rows.specs.Rows.{numbersIn}
 use Rattle.image.specs.declared.Saved.{Saved}
 use Rattle.image.specs.declared.Saved.the-variants as saved
 use Rattle.history.specs.Steps.{Begun, Built, Step, Run}
@@ -80,6 +80,39 @@ pub record RefusalsExact : Type 0 where
       → Refuses explanation.Refused (explainLines (contained (policyOf words)) (holdsTable words) (length rows) (policyOf words) (requestOf q)) r (rows′ ≡ rows)
   pub command : (words bytes : List ℕ) (c : Command) (r : Outcome) (words′ bytes′ : List ℕ) → allows.command words bytes c r words′ bytes′
       → Refuses outcome.Refused (commandLines (lent (memory words) bytes) (policyOf words) c) r ((words′ ≡ words) × (bytes′ ≡ bytes))
+
+-- contains-exact. Containment, by chains of assignments.
+pub record ContainsExact : Type 0 where
+  -- within exactly if no line refuses the call and "x is y or a chain of assignments leads from x to y"
+  pub within : (words : List ℕ) (x y : ℕ) (r : Containment) → allows.contains words x y r → (r ≡ containment.Within)
+      ↔ (None (containLines (holdsTable words) (policyOf words) x y) × Within (policyOf words .assignments) x y)
+  -- outside exactly if no line refuses the call and there is no such chain
+  pub outside : (words : List ℕ) (x y : ℕ) (r : Containment) → allows.contains words x y r → (r ≡ containment.Outside)
+      ↔ (None (containLines (holdsTable words) (policyOf words) x y) × (Within (policyOf words .assignments) x y → ⊥))
+
+-- index-exact. The containment index.
+pub record IndexExact : Type 0 where
+  -- "A call tells whether an index is the table's.": the same exactly if no line refuses the call and every byte is that of the index
+  pub same : (words bytes : List ℕ) (r : Matching) → allows.is-index words bytes r → (r ≡ matching.Same)
+      ↔ (None (indexLines (lent (memory words) bytes)) × (bytes ≡ indexOf (policyOf words)))
+  -- another exactly if no line refuses the call and not every byte is
+  pub other : (words bytes : List ℕ) (r : Matching) → allows.is-index words bytes r → (r ≡ matching.Other)
+      ↔ (None (indexLines (lent (memory words) bytes)) × (bytes ≡ indexOf (policyOf words) → ⊥))
+  -- the index is built exactly if no line refuses the call
+  pub done : (words bytes bytes′ : List ℕ) (r : Outcome) → allows.build-index words bytes r bytes′ → (r ≡ outcome.Done)
+      ↔ None (indexLines (lent (memory words) bytes))
+  -- then every byte is that of the index
+  pub built : (words bytes bytes′ : List ℕ) (r : Outcome) → allows.build-index words bytes r bytes′ → r ≡ outcome.Done
+      → bytes′ ≡ indexOf (policyOf words)
+  -- "Byte 64x + y/8, bit 7 - (y mod 8), is 1 exactly when x and y exist and x is within y."
+  pub bits : (words bytes bytes′ : List ℕ) (r : Outcome) → allows.build-index words bytes r bytes′ → r ≡ outcome.Done
+      → (x y : ℕ) → x < 512 → y < 512 → (bitAt bytes′ x y ≡ true)
+      ↔ ((isThere (policyOf words) x ≡ true) × (isThere (policyOf words) y ≡ true) × Within (policyOf words .assignments) x y)
+  -- "Row and column 0 are zero."
+  pub row-0 : (words bytes bytes′ : List ℕ) (r : Outcome) → allows.build-index words bytes r bytes′ → r ≡ outcome.Done
+      → (y : ℕ) → y < 512 → bitAt bytes′ 0 y ≡ false
+  pub column-0 : (words bytes bytes′ : List ℕ) (r : Outcome) → allows.build-index words bytes r bytes′ → r ≡ outcome.Done
+      → (x : ℕ) → x < 512 → bitAt bytes′ x 0 ≡ false
 
 -- grant-exact. The plain decision, containment being chains of assignments.
 pub record GrantExact : Type 0 where

@@ -1,7 +1,7 @@
 -- Which requests are refused, and with which number: each return.
 -- Assumes nothing.
-use mathlib.Core.Path.{_≡_, sym, _∙_}
-use mathlib.Core.Bool.{Bool, true, false, not, _||_}
+use mathlib.Core.Path.{_≡_, refl, sym, _∙_}
+use mathlib.Core.Bool.{Bool, true, false, not, _&&_, _||_}
 use mathlib.Core.List.{List}
 use Prim.Native.Nat.{ℕ, _≤_, _<_}
 use borrow.Author.Tests.{le-leb, lt-leb, leb-true, eq-eqb, ne-eqb, not-true, not-false}
@@ -29,27 +29,15 @@ pub operation-range : (n : ℕ) → isOperation n ≡ true → (1 ≤ n) × (n �
 unfolding isOperation
 operation-range n e = let k = and-cut (leb 1 n) (leb n 9) e in (leb-true 1 n (k .0), leb-true n 9 (k .1))
 
--- what was told to be an operation is at most 9
-pub operation-told : (n : ℕ) {r : Bool} → r ≡ isOperation n → not r ≡ false → n ≤ 9
-operation-told n {r} e h = operation-range n (sym e ∙ not-false r h) .1
-
--- A number out of range: each return.
+-- The process and the operation: each return.
 module _ (q : Request) {r : Bool} (e : r ≡ isProcessId (q .process)) where
-  -- the process
-  pub range-process : not r ≡ true → true ≡ outOfRange (requestOf q)
-  unfolding outOfRange
-  range-process h = rw (sym e ∙ not-true r h)
+  -- the process is no id of one
+  pub call-process : not r ≡ true → false ≡ (isProcessId (q .process) && isOperation (q .operation))
+  call-process h = rw (sym e ∙ not-true r h)
 
-  module _ (h : not r ≡ false) {s : Bool} (f : s ≡ isOperation (q .operation)) where
-    -- the operation
-    pub range-operation : not s ≡ true → true ≡ outOfRange (requestOf q)
-    unfolding outOfRange
-    range-operation i = rw (sym e ∙ not-false r h, sym f ∙ not-true s i)
-
-    -- neither: the arguments tell
-    pub range-arguments : not s ≡ false → {t : Bool} → t ≡ badArguments (kindsOf (requestOf q)) (argumentsOf (requestOf q)) → t ≡ outOfRange (requestOf q)
-    unfolding outOfRange
-    range-arguments i g = rw (sym e ∙ not-false r h, sym f ∙ not-false s i) g
+  -- it is: the operation tells
+  pub call-operation : not r ≡ false → {s : Bool} → s ≡ isOperation (q .operation) → s ≡ (isProcessId (q .process) && isOperation (q .operation))
+  call-operation h f = rw (sym e ∙ not-false r h) f
 
 -- What the request names is absent: each return.
 module _ (mem : List ℕ) (q : Request) {u : ℕ} (e : u ≡ userOf (policyOf mem) (q .process)) where
@@ -73,31 +61,52 @@ has-operation q e =
     let z : Bool = badArguments (kindsOf (requestOf q)) (argumentsOf (requestOf q)) in
     not-false (isOperation (q .operation)) (or-fails x y (or-fails (x || y) z e .0) .1)
 
+-- where two are not both so, one of them is not, whatever the third is
+not-both : (a b c : Bool) → (a && b) ≡ false → (not a || not b || c) ≡ true
+not-both true b c e = rw e
+not-both false b c e = refl
+
 -- The refusal: each return.
-module _ (q : Request) {r : Bool} (e : r ≡ outOfRange (requestOf q)) where
-  -- the operation of a request that is in range
-  pub in-range : r ≡ false → q .operation ≤ 9
-  in-range h = operation-range (q .operation) (has-operation q (sym e ∙ h)) .1
+module _ (q : Request) {r : Bool} (e : r ≡ (isProcessId (q .process) && isOperation (q .operation))) where
+  -- the process or the operation is out of range
+  pub gives-2-first : (mem : List ℕ) → not r ≡ true → 2 ≡ refusalOf mem q
+  unfolding refusal outOfRange
+  gives-2-first mem h =
+      rw (not-both (isProcessId (q .process)) (isOperation (q .operation)) (badArguments (kindsOf (requestOf q)) (argumentsOf (requestOf q))) (sym e ∙ not-true r h))
 
-  module _ (mem : List ℕ) where
-    -- out of range
-    pub gives-2 : r ≡ true → 2 ≡ refusalOf mem q
-    unfolding refusal
-    gives-2 h = rw (sym e ∙ h)
+  module _ (h : not r ≡ false) where
+    -- both are in range
+    both : (isProcessId (q .process) ≡ true) × (isOperation (q .operation) ≡ true)
+    both = and-cut (isProcessId (q .process)) (isOperation (q .operation)) (sym e ∙ not-false r h)
 
-    module _ (h : r ≡ false) {s : Bool} (f : s ≡ absent (policyOf mem) (requestOf q)) where
-      -- absent
-      pub gives-4 : s ≡ true → 4 ≡ refusalOf mem q
+    -- the operation is at most 9
+    pub operation-told : q .operation ≤ 9
+    operation-told = operation-range (q .operation) (both .1) .1
+
+    module _ (mem : List ℕ) {a : Bool} (d : a ≡ badArguments (kindsOf (requestOf q)) (argumentsOf (requestOf q))) where
+      -- the arguments tell what is out of range
+      range-told : outOfRange (requestOf q) ≡ a
+      unfolding outOfRange
+      range-told = rw (both .0, both .1) (sym d)
+
+      -- an argument is out of range
+      pub gives-2 : a ≡ true → 2 ≡ refusalOf mem q
       unfolding refusal
-      gives-4 i = rw (sym e ∙ h, sym f ∙ i)
+      gives-2 g = rw (range-told ∙ g)
 
-      module _ (i : s ≡ false) {t : Bool} (g : t ≡ mismatched (policyOf mem) (requestOf q)) where
-        -- of another kind
-        pub gives-5 : t ≡ true → 5 ≡ refusalOf mem q
+      module _ (g : a ≡ false) {s : Bool} (f : s ≡ absent (policyOf mem) (requestOf q)) where
+        -- absent
+        pub gives-4 : s ≡ true → 4 ≡ refusalOf mem q
         unfolding refusal
-        gives-5 j = rw (sym e ∙ h, sym f ∙ i, sym g ∙ j)
+        gives-4 i = rw (range-told ∙ g, sym f ∙ i)
 
-        -- none of these
-        pub gives-none : t ≡ false → 0 ≡ refusalOf mem q
-        unfolding refusal
-        gives-none j = rw (sym e ∙ h, sym f ∙ i, sym g ∙ j)
+        module _ (i : s ≡ false) {t : Bool} (k : t ≡ mismatched (policyOf mem) (requestOf q)) where
+          -- of another kind
+          pub gives-5 : t ≡ true → 5 ≡ refusalOf mem q
+          unfolding refusal
+          gives-5 j = rw (range-told ∙ g, sym f ∙ i, sym k ∙ j)
+
+          -- none of these
+          pub gives-none : t ≡ false → 0 ≡ refusalOf mem q
+          unfolding refusal
+          gives-none j = rw (range-told ∙ g, sym f ∙ i, sym k ∙ j)

@@ -1,7 +1,9 @@
 // Requests: the operation table, and which requests are refused.
 ghost use mathlib.Core.Path.{_≡_};
+ghost use mathlib.Core.Bool.{_&&_};
 ghost use Prim.Native.Nat.{_≤_, _<_};
-ghost use Rattle.model.specs.Request.{isOperation, badArguments, absentArguments, argumentsOf, kindsOf, outOfRange, absent, mismatched};
+ghost use Rattle.model.specs.Policy.{isProcessId};
+ghost use Rattle.model.specs.Request.{isOperation, badArguments, absentArguments, argumentsOf, kindsOf, absent, mismatched};
 ghost use Rattle.table.specs.View.{policyOf};
 ghost use Rattle.table.specs.Facts.{Table};
 ghost use Rattle.request.specs.Sets.{kindSets, capabilities, isBad, isAbsent, isWrong};
@@ -15,6 +17,9 @@ pub struct Request {
     pub second: u32,
     pub third: u32,
 }
+
+// The number of the refusal for a number that is out of range.
+const OUT_OF_RANGE: u32 = 2;
 
 // Kinds as sets: bit k is set for kind k.
 const USER_ATTRIBUTE: u32 = 4;
@@ -137,11 +142,10 @@ fn is_wrong(mem: &[u32], kinds: u32, e: u32) -> bool
 }
 
 // Whether some argument is bad.
-fn are_bad(q: Request) -> bool
-    requires { ⌜ q .operation ≤ 9 ⌝ }
+fn are_bad(kinds: [u32; 3], q: Request) -> bool
+    requires { ⌜ kinds ≡ kindSets (q .operation) ⌝ }
     ensures { λ r. ⌜ r ≡ badArguments (kindsOf (requestOf q)) (argumentsOf (requestOf q)) ⌝ }
 {
-    let kinds = kinds_of(q.operation);
     if is_bad(kinds[0], q.first) {
         return true;
     }
@@ -152,12 +156,11 @@ fn are_bad(q: Request) -> bool
 }
 
 // Whether some argument that is used is not there.
-fn are_absent(mem: &[u32], q: Request) -> bool
+fn are_absent(mem: &[u32], kinds: [u32; 3], q: Request) -> bool
     requires { ⌜ Table (now mem) ⌝ }
-    requires { ⌜ q .operation ≤ 9 ⌝ }
+    requires { ⌜ kinds ≡ kindSets (q .operation) ⌝ }
     ensures { λ r. ⌜ r ≡ absentArguments (policyOf (now (mem .entry))) (kindsOf (requestOf q)) (argumentsOf (requestOf q)) ⌝ }
 {
-    let kinds = kinds_of(q.operation);
     if is_absent(mem, kinds[0], q.first) {
         return true;
     }
@@ -168,12 +171,11 @@ fn are_absent(mem: &[u32], q: Request) -> bool
 }
 
 // Whether some argument that is used is of another kind.
-fn are_wrong(mem: &[u32], q: Request) -> bool
+fn are_wrong(mem: &[u32], kinds: [u32; 3], q: Request) -> bool
     requires { ⌜ Table (now mem) ⌝ }
-    requires { ⌜ q .operation ≤ 9 ⌝ }
+    requires { ⌜ kinds ≡ kindSets (q .operation) ⌝ }
     ensures { λ r. ⌜ r ≡ mismatched (policyOf (now (mem .entry))) (requestOf q) ⌝ }
 {
-    let kinds = kinds_of(q.operation);
     if is_wrong(mem, kinds[0], q.first) {
         return true;
     }
@@ -183,29 +185,26 @@ fn are_wrong(mem: &[u32], q: Request) -> bool
     is_wrong(mem, kinds[2], q.third)
 }
 
-// Whether a number of the request is out of range.
-fn is_out_of_range(q: Request) -> bool
-    ensures { λ r. ⌜ r ≡ outOfRange (requestOf q) ⌝ }
+// Whether the process is an id of a process and the operation is one.
+fn is_call(q: Request) -> bool
+    ensures { λ r. ⌜ r ≡ (isProcessId (q .process) && isOperation (q .operation)) ⌝ }
 {
     if !table::is_process_id(q.process) {
-        return true;
+        return false;
     }
-    if !is_operation(q.operation) {
-        return true;
-    }
-    are_bad(q)
+    is_operation(q.operation)
 }
 
 // Whether the process, or an argument that is used, is not there.
-fn names_absent(mem: &[u32], q: Request) -> bool
+fn names_absent(mem: &[u32], kinds: [u32; 3], q: Request) -> bool
     requires { ⌜ Table (now mem) ⌝ }
-    requires { ⌜ q .operation ≤ 9 ⌝ }
+    requires { ⌜ kinds ≡ kindSets (q .operation) ⌝ }
     ensures { λ r. ⌜ r ≡ absent (policyOf (now (mem .entry))) (requestOf q) ⌝ }
 {
     if table::user_of(mem, q.process) == 0 {
         return true;
     }
-    are_absent(mem, q)
+    are_absent(mem, kinds, q)
 }
 
 // The number of the request's refusal, 0 where it is not refused: 2, then 4, then 5, each over all that the request names.
@@ -213,13 +212,17 @@ pub fn refusal(mem: &[u32], q: Request) -> u32
     requires { ⌜ Table (now mem) ⌝ }
     ensures { λ r. ⌜ r ≡ refusalOf (now (mem .entry)) q ⌝ }
 {
-    if is_out_of_range(q) {
-        return 2;
+    if !is_call(q) {
+        return OUT_OF_RANGE;
     }
-    if names_absent(mem, q) {
+    let kinds = kinds_of(q.operation);
+    if are_bad(kinds, q) {
+        return OUT_OF_RANGE;
+    }
+    if names_absent(mem, kinds, q) {
         return 4;
     }
-    if are_wrong(mem, q) {
+    if are_wrong(mem, kinds, q) {
         return 5;
     }
     0

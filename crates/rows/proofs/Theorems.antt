@@ -2,7 +2,6 @@
 -- Assumes nothing.
 use mathlib.Core.Path.{_≡_, refl, sym, ap, _∙_}
 use mathlib.Core.List.{List, map}
-use Prim.Native.Nat.{ℕ}
 use lib.ListN.{length, length-map}
 use Rattle.model.specs.Contain.{contained}
 use Rattle.model.specs.Refusal.{Answer, refused, accepted}
@@ -13,13 +12,9 @@ use Rattle.model.specs.Calls.{Memory, Explaining, kept, over}
 use Rattle.model.specs.Calls as calls
 use Rattle.explain.specs.Answers.{told, left, numbersOf, numbers, explaining}
 use Rattle.explain.specs.declared.Explanation.{Explanation}
-use Rattle.rows.specs.Rows.{rowOf, leaving}
+use Rattle.rows.specs.Rows.{rowOf, leaving, numbersIn}
 use Rattle.rows.specs.declared.Row.{Row}
 use Rattle.rows.proofs.Answered.{map-over}
-
--- the numbers of lent rows
-abbrev pub numbersIn : List Row → List (List ℕ)
-numbersIn rs = map numbersOf (map rowOf rs)
 
 -- the numbers of the rows that a call leaves
 numbers-kept : (a : Answer Explained) (new old : List explain.Row) → map numbersOf (kept a (over new old) old) ≡ kept a (over (map numbersOf new) (map numbersOf old)) (map numbersOf old)

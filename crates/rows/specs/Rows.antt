@@ -9,7 +9,7 @@ use Rattle.model.specs.Request.{Request as Asks}
 use Rattle.model.specs.Explain.{explanation}
 use Rattle.model.specs.Explain as explain
 use Rattle.model.specs.Calls.{Memory, Explaining, kept}
-use Rattle.explain.specs.Answers.{told, numbers, explaining}
+use Rattle.explain.specs.Answers.{told, numbersOf, numbers, explaining}
 use Rattle.explain.specs.declared.Explanation.{Explanation}
 use Rattle.explain.specs.declared.Explanation.the-variants.{Grant, Deny, Refused}
 use Rattle.rows.specs.declared.Row.{Row}
@@ -59,3 +59,7 @@ pub record Tells (m : Memory) (q : Asks) (room : ℕ) (r : Explanation) (before 
   pub rows : take (countOf r) ns ≡ kept (told r) (numbers (m .policy) q) []
   pub few : countOf r ≤ room
   pub many : countOf r ≤ length ns
+
+-- the numbers of lent rows
+abbrev pub numbersIn : List Row → List (List ℕ)
+numbersIn rs = map numbersOf (map rowOf rs)

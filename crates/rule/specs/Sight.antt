@@ -2,14 +2,13 @@
 -- Assumes nothing.
 use mathlib.Core.Bool.{Bool, cond, _&&_}
 use mathlib.Core.List.{List}
-use Prim.Native.Nat.{ℕ, _+_, _*_}
-use lib.Dec.{eqb, ltb}
-use lib.ListN.{getD}
+use Prim.Native.Nat.{ℕ}
+use lib.Dec.{ltb}
 use Rattle.model.specs.Index.{bitAt}
 
--- mark y of row x, 512 marks a row
+-- mark y of row x, a bit in 64 bytes a row: there are 512 marks in a row
 unfoldable pub markAt : (rows : List ℕ) (x y : ℕ) → Bool
-markAt rows x y = ltb y 512 && eqb (getD rows (512 * x + y) 0) 1
+markAt rows x y = ltb y 512 && bitAt rows x y
 
 -- what row x says of y: the bit of an index, or the mark of a climb
 unfoldable pub seen : (rows : List ℕ) (indexed : Bool) (x y : ℕ) → Bool

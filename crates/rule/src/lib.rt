@@ -21,18 +21,14 @@ pub struct Asking {
     pub over: u32,
 }
 
-// Mark y of row x, 512 marks a row.
+// Mark y of row x, a bit in 64 bytes a row.
 fn mark(rows: &[u8], x: u32, y: u32) -> bool
     ensures { λ r. ⌜ r ≡ markAt (now (rows .entry)) x y ⌝ }
 {
     if 511 < y {
         return false;
     }
-    let i = 512 * (x as usize) + y as usize;
-    if rows.len() <= i {
-        return false;
-    }
-    rows[i] == 1
+    index::bit(rows, x, y)
 }
 
 // Whether row x says y: by the bit of an index, or by the mark of a climb.

@@ -33,17 +33,32 @@ first-set : (n m : ℕ) → 0 < n → set (replicate n 0) 0 m ≡ m ∷ replicat
 first-set zero m h = absurd (not-suc-le-zero h)
 first-set (suc n) m h = let e : suc n - 1 ≡ n = omega arith in rw e refl
 
--- New: another length, and the empty table.
+-- Words that are all zero.
+module _ {words : List ℕ} (zeros : words ≡ replicate 8192 0) where
+  -- there is a first of them
+  pub zeros-some : 0 < length words
+  zeros-some = let n : length words ≡ 8192 = ap length zeros ∙ length-replicate {A = ℕ} 8192 0 in omega arith
+
+  -- with the mark there they are the empty table
+  pub zeros-marked : set words 0 1363431985 ≡ emptyTable
+  unfolding emptyTable
+  zeros-marked = ap (λ l. set l 0 1363431985) zeros ∙ first-set 8192 mark (omega arith)
+
+-- New, return by return.
 module _ (words : List ℕ) where
+  -- another length
   pub new-refused : (length words ≡ 8192 → ⊥) → left (Refused 1) words ≡ newTable words
   unfolding told newTable answer kept
   new-refused h = rw (ne-eqb (length words) 8192 h) refl
 
-  pub new-done : length words ≡ 8192 → {mem : List ℕ} → mem ≡ laid 0 (replicate 8192 0) words → left Done (set mem 0 1363431985) ≡ newTable words
-  unfolding told newTable answer kept emptyTable
-  new-done e {mem} c =
-      let t : set mem 0 1363431985 ≡ mark ∷ replicate (wordCount - 1) 0 = ap (λ l. set l 0 1363431985) (c ∙ all-cleared 8192 words e) ∙ first-set 8192 mark (omega arith) in
-      rw (eq-eqb (length words) 8192 e, t) refl
+  -- the words are cleared
+  pub new-cleared : length words ≡ 8192 → {mem : List ℕ} → mem ≡ laid 0 (replicate 8192 0) words → mem ≡ replicate 8192 0
+  new-cleared e c = c ∙ all-cleared 8192 words e
+
+  -- and marked
+  pub new-done : length words ≡ 8192 → {mem : List ℕ} → mem ≡ emptyTable → left Done mem ≡ newTable words
+  unfolding told newTable answer kept
+  new-done e t = rw (eq-eqb (length words) 8192 e, t) refl
 
 -- word i of the empty table
 empty-word : (i : ℕ) → (i ≡ 0 → ⊥) → word emptyTable i ≡ 0

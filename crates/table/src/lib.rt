@@ -2,10 +2,10 @@
 ghost use mathlib.Core.Path.{_≡_};
 ghost use mathlib.Core.Bool.{_&&_};
 ghost use Prim.Native.Nat.{_+_, _-_, _≤_, _<_};
-ghost use lib.ListN.{length};
+ghost use lib.ListN.{length, replicate};
 ghost use Rattle.model.specs.Policy.{isElementId, isProcessId, kindOf, isThere, userOf, isAssigned};
 ghost use Rattle.table.specs.Layout.{word, assignmentCount, associationCount, prohibitionCount, prohibitionStart};
-ghost use Rattle.table.specs.View.{areRising, areSmall, areZero, areTidy, holdsTable, isTidy, policyOf, inclusionCount, exclusionCount, assignmentAt, associationAt, prohibitionAt};
+ghost use Rattle.table.specs.View.{areRising, areSmall, areZero, areTidy, holdsTable, isTidy, emptyTable, policyOf, inclusionCount, exclusionCount, assignmentAt, associationAt, prohibitionAt};
 ghost use Rattle.table.specs.Answers.{left, newTable};
 ghost use Rattle.table.specs.Facts.{Table, Unused, FirstOf, AtMost};
 
@@ -245,6 +245,14 @@ pub fn holds(mem: &[u32]) -> bool
     are_tidy(mem, mem[PROHIBITION_COUNTER] as usize)
 }
 
+// Makes words that are all zero the empty table.
+pub fn mark(mem: &mut [u32])
+    requires { ⌜ now mem ≡ replicate 8192 0 ⌝ }
+    ensures { λ _. ⌜ now (mem .exit) ≡ emptyTable ⌝ }
+{
+    mem[0] = MARK;
+}
+
 // Makes the memory the empty table.
 pub fn new(mem: &mut [u32]) -> Outcome
     ensures { λ r. ⌜ left r (now (mem .exit)) ≡ newTable (now (mem .entry)) ⌝ }
@@ -253,7 +261,7 @@ pub fn new(mem: &mut [u32]) -> Outcome
         return Outcome::Refused(1);
     }
     group::clear(mem, 0, WORDS);
-    mem[0] = MARK;
+    mark(mem);
     Outcome::Done
 }
 

@@ -1,5 +1,5 @@
 use borrow.Author.Needs.{needs}
-use Rattle.climb.proofs.Queue.{closed-none}
+use Rattle.climb.proofs.Queue.{blank-zeros, closed-none}
 use Rattle.climb.proofs.Onward.{first-marks}
 use Rattle.climb.proofs.marks.Statement.{statement}
 use Rattle.climb.proofs.marks.Tie as tie
@@ -11,7 +11,7 @@ climb-on-requires : tie.Need-climb-on-requires
 climb-on-requires c κs = (search needs, (search needs, closed-none _))
 
 returns : tie.Need-returns
-returns c = search first-marks
+returns c = search (first-marks, blank-zeros)
 
 pub marks-spec : {M : Type 1} → statement M
 marks-spec = tie.close (tie.spec climb-on-requires returns)

@@ -1,13 +1,11 @@
-use Rattle.desk.proofs.Reading.{length-there, image-there}
 use Rattle.desk.proofs.Opening.{loaded-table, other-length, no-room-begun, short-printed, refused-printed, open-printed}
 use borrow.Author.Needs.{needs}
 use Rattle.desk.proofs.begin.Statement.{statement}
 use Rattle.desk.proofs.begin.Tie as tie
 use Rattle.desk.proofs.begin.Reads as reads
 use Rattle.desk.proofs.begin.Lts as lts
-use Rattle.desk.proofs.image_length.Reads as image-length-reads
-use Rattle.desk.proofs.is_short.Reads as is-short-reads
 use Rattle.desk.proofs.put_counts.Reads as put-counts-reads
+use Rattle.desk.proofs.wanted.Reads as wanted-reads
 use Rattle.lines.proofs.put_line.Reads as put-line-reads
 use Rattle.policy.proofs.load.Reads as load-reads
 
@@ -17,8 +15,8 @@ returns c = search other-length
 returns-2 : tie.Need-returns-2
 returns-2 c = search no-room-begun
 
-is-short-requires : tie.Need-is-short-requires
-is-short-requires c κs = search needs
+wanted-requires : tie.Need-wanted-requires
+wanted-requires c κs = search needs
 
 slice-aggregate-put-line : tie.Need-slice-aggregate-put-line
 slice-aggregate-put-line c = search needs
@@ -32,12 +30,6 @@ same-length c = search needs
 returns-3 : tie.Need-returns-3
 returns-3 c = search short-printed
 
-image-length-requires : tie.Need-image-length-requires
-image-length-requires c κs = search length-there
-
-add-start : tie.Need-add-start
-add-start c = search needs
-
 sub-load : tie.Need-sub-load
 sub-load c = search needs
 
@@ -45,7 +37,7 @@ part-load-start : tie.Need-part-load-start
 part-load-start c = search needs
 
 part-load-end : tie.Need-part-load-end
-part-load-end c = search image-there
+part-load-end c = search needs
 
 load-requires : tie.Need-load-requires
 load-requires c κs = search needs
@@ -89,13 +81,11 @@ begin-spec =
     (tie.spec
     returns
     returns-2
-    is-short-requires
+    wanted-requires
     slice-aggregate-put-line
     put-line-requires
     same-length
     returns-3
-    image-length-requires
-    add-start
     sub-load
     part-load-start
     part-load-end

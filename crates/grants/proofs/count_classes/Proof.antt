@@ -1,47 +1,42 @@
-use Prim.Native.Nat.{_≤_, _-_}
+use Prim.Native.Nat.{_-_}
 use borrow.Author.Needs.{needs}
-use Rattle.table.specs.View.{policyOf}
-use Rattle.rule.specs.Sight.{seen}
-use Rattle.rule.specs.Parts.{classOf}
-use mathlib.Core.Bool.{false}
-use Rattle.grants.proofs.Counted.{CountedBelow, classes-start, classes-more, classes-end}
+use Rattle.grants.proofs.Classes.{CountedTo, count-start, count-more, count-end}
 use native.Mathlib.Omega.{arith}
 use Rattle.grants.proofs.count_classes.Statement.{statement}
 use Rattle.grants.proofs.count_classes.Tie as tie
 use Rattle.grants.proofs.count_classes.Reads as reads
 use Rattle.grants.proofs.count_classes.Lts as lts
-use Rattle.grants.proofs.one_if.Reads as one-if-reads
-use Rattle.rule.proofs.is_class_of.Reads as is-class-of-reads
+use Rattle.held.proofs.next_class.Reads as next-class-reads
 
 abbrev Inv-loop : tie.InvT-loop
-Inv-loop mem rows q n₀ c₀ n c = (c ≤ 512) × CountedBelow (classOf (seen rows false (q .over)) (policyOf mem)) 1 c n
+Inv-loop mem rows q n₀ c₀ n c = CountedTo mem q c n
 
 abbrev μ-loop : tie.MeasureT-loop
 μ-loop mem rows q n₀ c₀ n c = 512 - c
 
+next-class-requires : tie.Need-next-class-requires Inv-loop μ-loop
+next-class-requires c κs = (search needs, omega arith)
+
 loop-holds : tie.Need-loop-holds Inv-loop μ-loop
-loop-holds c = (omega arith, search classes-start)
-
-is-class-of-requires : tie.Need-is-class-of-requires Inv-loop μ-loop
-is-class-of-requires c κs = search needs
-
-one-if-requires : tie.Need-one-if-requires Inv-loop μ-loop
-one-if-requires c κs = search needs
+loop-holds c = search count-start
 
 add-n : tie.Need-add-n Inv-loop μ-loop
 add-n c = omega arith
 
-add-c : tie.Need-add-c Inv-loop μ-loop
-add-c c = omega arith
+add-next-class : tie.Need-add-next-class Inv-loop μ-loop
+add-next-class c = omega arith
+
+next-class-requires-2 : tie.Need-next-class-requires-2 Inv-loop μ-loop
+next-class-requires-2 c κs = (search needs, omega arith)
 
 loop-less : tie.Need-loop-less Inv-loop μ-loop
 loop-less c = omega arith
 
 loop-again : tie.Need-loop-again Inv-loop μ-loop
-loop-again c = (omega arith, search classes-more)
+loop-again c = search count-more
 
 returns : tie.Need-returns Inv-loop μ-loop
-returns c = search classes-end
+returns c = search count-end
 
 pub count-classes-spec : {M : Type 1} → statement M
 count-classes-spec =
@@ -49,11 +44,11 @@ count-classes-spec =
     (tie.spec
     Inv-loop
     μ-loop
+    next-class-requires
     loop-holds
-    is-class-of-requires
-    one-if-requires
     add-n
-    add-c
+    add-next-class
+    next-class-requires-2
     loop-less
     loop-again
     returns)

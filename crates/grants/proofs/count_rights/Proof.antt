@@ -11,7 +11,7 @@ use Rattle.grants.proofs.one_if.Reads as one-if-reads
 use Rattle.rule.proofs.has_right.Reads as has-right-reads
 
 abbrev Inv-loop : tie.InvT-loop
-Inv-loop rights n₀ left₀ r₀ n left r = Left rights r left × CountedBelow (hasRight rights) 0 r n
+Inv-loop rights n₀ left₀ r₀ n left r = Left rights r left × CountedBelow (hasRight rights) r n
 
 abbrev μ-loop : tie.MeasureT-loop
 μ-loop rights n₀ left₀ r₀ n left r = left

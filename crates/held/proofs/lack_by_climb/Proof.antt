@@ -1,13 +1,13 @@
+use Rattle.held.proofs.Turns.{FarMarked, AtMarked, marked-start, marked-class, marked-end, marked-more, marked-given, marked-lacks}
 use Prim.Native.Nat.{_-_}
 use borrow.Author.Needs.{needs}
-use Rattle.held.proofs.Turns.{FarMarked, AtMarked, marked-start, marked-on, marked-class, marked-end, marked-more, marked-given, marked-lacks}
 use native.Mathlib.Omega.{arith}
 use Rattle.held.proofs.lack_by_climb.Statement.{statement}
 use Rattle.held.proofs.lack_by_climb.Tie as tie
 use Rattle.held.proofs.lack_by_climb.Reads as reads
 use Rattle.held.proofs.lack_by_climb.Lts as lts
 use Rattle.held.proofs.give_by_climb.Reads as give-by-climb-reads
-use Rattle.rule.proofs.is_class_of.Reads as is-class-of-reads
+use Rattle.held.proofs.next_class.Reads as next-class-reads
 use Rattle.table.proofs.association_count.Reads as association-count-reads
 
 abbrev Inv-loop : tie.InvT-loop
@@ -26,23 +26,14 @@ association-count-requires :
     tie.Need-association-count-requires Inv-loop μ-loop Inv-classes μ-classes
 association-count-requires c κs = search needs
 
+next-class-requires : tie.Need-next-class-requires Inv-loop μ-loop Inv-classes μ-classes
+next-class-requires c κs = (search needs, omega arith)
+
 classes-holds : tie.Need-classes-holds Inv-loop μ-loop Inv-classes μ-classes
 classes-holds c = search marked-start
 
-is-class-of-requires : tie.Need-is-class-of-requires Inv-loop μ-loop Inv-classes μ-classes
-is-class-of-requires c κs = search needs
-
-add-c : tie.Need-add-c Inv-loop μ-loop Inv-classes μ-classes
-add-c c = omega arith
-
-classes-less : tie.Need-classes-less Inv-loop μ-loop Inv-classes μ-classes
-classes-less c = omega arith
-
-classes-again : tie.Need-classes-again Inv-loop μ-loop Inv-classes μ-classes
-classes-again c = search marked-on
-
 loop-holds : tie.Need-loop-holds Inv-loop μ-loop Inv-classes μ-classes
-loop-holds c = search (marked-class, c .if1 .left, c .before .is-class-of .ensures, c .before .before .classes-test .taken, c .before .before .before .classes .inv)
+loop-holds c = search marked-class
 
 cast-loop : tie.Need-cast-loop Inv-loop μ-loop Inv-classes μ-classes
 cast-loop c = omega arith
@@ -62,14 +53,17 @@ loop-less c = omega arith
 loop-again : tie.Need-loop-again Inv-loop μ-loop Inv-classes μ-classes
 loop-again c = search marked-more
 
-add-c-2 : tie.Need-add-c-2 Inv-loop μ-loop Inv-classes μ-classes
-add-c-2 c = omega arith
+add-next-class : tie.Need-add-next-class Inv-loop μ-loop Inv-classes μ-classes
+add-next-class c = omega arith
 
-classes-less-2 : tie.Need-classes-less-2 Inv-loop μ-loop Inv-classes μ-classes
-classes-less-2 c = omega arith
+next-class-requires-2 : tie.Need-next-class-requires-2 Inv-loop μ-loop Inv-classes μ-classes
+next-class-requires-2 c κs = (search needs, omega arith)
 
-classes-again-2 : tie.Need-classes-again-2 Inv-loop μ-loop Inv-classes μ-classes
-classes-again-2 c = search (marked-given, c .loop-test .left, c .before .loop .inv)
+classes-less : tie.Need-classes-less Inv-loop μ-loop Inv-classes μ-classes
+classes-less c = omega arith
+
+classes-again : tie.Need-classes-again Inv-loop μ-loop Inv-classes μ-classes
+classes-again c = search marked-given
 
 returns : tie.Need-returns Inv-loop μ-loop Inv-classes μ-classes
 returns c = search marked-end
@@ -86,11 +80,8 @@ lack-by-climb-spec =
     Inv-classes
     μ-classes
     association-count-requires
+    next-class-requires
     classes-holds
-    is-class-of-requires
-    add-c
-    classes-less
-    classes-again
     loop-holds
     cast-loop
     array-read-loop
@@ -98,8 +89,9 @@ lack-by-climb-spec =
     add-i
     loop-less
     loop-again
-    add-c-2
-    classes-less-2
-    classes-again-2
+    add-next-class
+    next-class-requires-2
+    classes-less
+    classes-again
     returns
     returns-2)

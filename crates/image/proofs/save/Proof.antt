@@ -10,43 +10,33 @@ use Rattle.pack.proofs.pack.Reads as pack-reads
 use Rattle.table.proofs.holds.Reads as holds-reads
 use Rattle.weigh.proofs.byte_count.Reads as byte-count-reads
 
--- src/lib.rt:69:9
 holds-requires : tie.Need-holds-requires
 holds-requires c κs = search needs
 
--- src/lib.rt:70:9
 returns : tie.Need-returns
 returns c = search no-table
 
--- src/lib.rt:72:9
 byte-count-requires : tie.Need-byte-count-requires
 byte-count-requires c κs = search tested
 
--- src/lib.rt:74:9
 returns-2 : tie.Need-returns-2
 returns-2 c = search no-room
 
--- src/lib.rt:76:21
 sub-pack : tie.Need-sub-pack
 sub-pack c = search needs
 
--- src/lib.rt:76:21
 part-pack-start : tie.Need-part-pack-start
 part-pack-start c = search needs
 
--- src/lib.rt:76:21
 part-pack-end : tie.Need-part-pack-end
 part-pack-end c = search needs
 
--- src/lib.rt:76:5
 pack-requires : tie.Need-pack-requires
 pack-requires c κs = (search tested, omega arith)
 
--- src/lib.rt:66:1
 same-length : tie.Need-same-length
 same-length c = search needs
 
--- src/lib.rt:66:1
 returns-3 : tie.Need-returns-3
 returns-3 c = search image-saved
 

@@ -9,31 +9,24 @@ use Rattle.links.proofs.names_wrong.Reads as names-wrong-reads
 use Rattle.ranges.proofs.breaks_rule.Reads as breaks-rule-reads
 use Rattle.table.proofs.holds.Reads as holds-reads
 
--- src/lib.rt:20:9
 holds-requires : tie.Need-holds-requires
 holds-requires c κs = search needs
 
--- src/lib.rt:21:9
 returns : tie.Need-returns
 returns c = search no-table-13
 
--- src/lib.rt:23:8
 breaks-rule-requires : tie.Need-breaks-rule-requires
 breaks-rule-requires c κs = search tested
 
--- src/lib.rt:24:9
 returns-2 : tie.Need-returns-2
 returns-2 c = search broken-13
 
--- src/lib.rt:26:8
 names-wrong-requires : tie.Need-names-wrong-requires
 names-wrong-requires c κs = search tested
 
--- src/lib.rt:27:9
 returns-3 : tie.Need-returns-3
 returns-3 c = search wrong-14
 
--- src/lib.rt:17:1
 returns-4 : tie.Need-returns-4
 returns-4 c = search right-0
 

@@ -1,6 +1,7 @@
 use borrow.Author.Needs.{needs}
 use Prim.Native.Nat.{_-_}
 use Rattle.table.specs.View.{policyOf}
+use Rattle.table.specs.Facts.{FirstOf}
 use Rattle.links.specs.Returning.{isPlaced}
 use Rattle.links.proofs.Numbered.{IdsPass, ids-none, ids-more, element-fails, elements-pass}
 use native.Mathlib.Omega.{arith}
@@ -9,18 +10,26 @@ use Rattle.links.proofs.are_all_assigned.Tie as tie
 use Rattle.links.proofs.are_all_assigned.Reads as reads
 use Rattle.links.proofs.are_all_assigned.Lts as lts
 use Rattle.links.proofs.is_placed.Reads as is-placed-reads
+use Rattle.links.proofs.next_of.Reads as next-of-reads
+use Rattle.table.proofs.first_of.Reads as first-of-reads
 
 abbrev Inv-loop : tie.InvT-loop
-Inv-loop mem x₀ x = IdsPass (isPlaced (policyOf mem)) x
+Inv-loop mem first₀ x₀ first x = IdsPass (isPlaced (policyOf mem)) x × FirstOf mem x first
 
 abbrev μ-loop : tie.MeasureT-loop
-μ-loop mem x₀ x = 512 - x
+μ-loop mem first₀ x₀ first x = 512 - x
+
+first-of-requires : tie.Need-first-of-requires Inv-loop μ-loop
+first-of-requires c κs = search needs
 
 loop-holds : tie.Need-loop-holds Inv-loop μ-loop
-loop-holds c = search ids-none
+loop-holds c = (search ids-none, search needs)
+
+next-of-requires : tie.Need-next-of-requires Inv-loop μ-loop
+next-of-requires c κs = (search needs, (omega arith, search needs))
 
 is-placed-requires : tie.Need-is-placed-requires Inv-loop μ-loop
-is-placed-requires c κs = (search needs, omega arith)
+is-placed-requires c κs = (search needs, (omega arith, (search needs, search needs)))
 
 returns : tie.Need-returns Inv-loop μ-loop
 returns c = search element-fails
@@ -32,7 +41,7 @@ loop-less : tie.Need-loop-less Inv-loop μ-loop
 loop-less c = omega arith
 
 loop-again : tie.Need-loop-again Inv-loop μ-loop
-loop-again c = search ids-more
+loop-again c = (search ids-more, search needs)
 
 returns-2 : tie.Need-returns-2 Inv-loop μ-loop
 returns-2 c = search elements-pass
@@ -43,7 +52,9 @@ are-all-assigned-spec =
     (tie.spec
     Inv-loop
     μ-loop
+    first-of-requires
     loop-holds
+    next-of-requires
     is-placed-requires
     returns
     add-x

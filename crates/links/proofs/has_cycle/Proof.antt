@@ -1,33 +1,29 @@
-use Rattle.links.proofs.Cycle.{cycle-told}
+use Rattle.links.proofs.Above.{above-acyclic}
 use borrow.Author.Needs.{needs}
 use Rattle.links.proofs.has_cycle.Statement.{statement}
 use Rattle.links.proofs.has_cycle.Tie as tie
 use Rattle.links.proofs.has_cycle.Reads as reads
 use Rattle.links.proofs.has_cycle.Lts as lts
-use Rattle.index.proofs.fill.Reads as fill-reads
-use Rattle.links.proofs.returns_by.Reads as returns-by-reads
+use Rattle.links.proofs.are_above.Reads as are-above-reads
+use Rattle.links.proofs.has_cycle_by_index.Reads as has-cycle-by-index-reads
+use Rattle.links.proofs.ranks.Reads as ranks-reads
 
-slice-aggregate-fill : tie.Need-slice-aggregate-fill
-slice-aggregate-fill c = search needs
+ranks-requires : tie.Need-ranks-requires
+ranks-requires c κs = search needs
 
-fill-requires : tie.Need-fill-requires
-fill-requires c κs = search needs
-
-slice-aggregate-returns-by : tie.Need-slice-aggregate-returns-by
-slice-aggregate-returns-by c = search needs
-
-returns-by-requires : tie.Need-returns-by-requires
-returns-by-requires c κs = search needs
+are-above-requires : tie.Need-are-above-requires
+are-above-requires c κs = search needs
 
 returns : tie.Need-returns
-returns c = search cycle-told
+returns c = search above-acyclic
+
+has-cycle-by-index-requires : tie.Need-has-cycle-by-index-requires
+has-cycle-by-index-requires c κs = search needs
+
+returns-2 : tie.Need-returns-2
+returns-2 c = search needs
 
 pub has-cycle-spec : {M : Type 1} → statement M
 has-cycle-spec =
     tie.close
-    (tie.spec
-    slice-aggregate-fill
-    fill-requires
-    slice-aggregate-returns-by
-    returns-by-requires
-    returns)
+    (tie.spec ranks-requires are-above-requires returns has-cycle-by-index-requires returns-2)

@@ -1,4 +1,5 @@
 use Rattle.lowest.proofs.InOrder.{rise-so}
+use Rattle.lowest.proofs.Enough.{classes-all}
 use borrow.Author.Needs.{needs}
 use Rattle.lowest.proofs.lowest.Statement.{statement}
 use Rattle.lowest.proofs.lowest.Tie as tie
@@ -21,7 +22,7 @@ lowest-of-any-requires : tie.Need-lowest-of-any-requires
 lowest-of-any-requires c κs = search needs
 
 returns-2 : tie.Need-returns-2
-returns-2 c = search needs
+returns-2 c = search classes-all
 
 pub lowest-spec : {M : Type 1} → statement M
 lowest-spec =

@@ -15,7 +15,7 @@ use lib.ListN.{length, take, drop, length-append, length-take, length-drop, take
 use lib.Seq.{length-take-le, take-at, drop-at}
 use borrow.Author.Tests.{ltb-true, lt-ltb}
 use Rattle.model.specs.Lists.{allOf}
-use Rattle.model.specs.Bits.{digit, odd, bitsN, numOf, numAt, bitsOf, bytesOf}
+use Rattle.model.specs.Bits.{digit, odd, bitsN, numOf, numAt, bitsOf, bytesOf, areBytes}
 use Rattle.model.proofs.Truth.{and-cut}
 
 two-cases : (r : ℕ) → r < 2 → (r ≡ 0) ⊎ (r ≡ 1)
@@ -113,10 +113,6 @@ bits-of-bytes zero (b ∷ l) e = absurd (omega arith)
 bits-of-bytes (suc n) l e =
     let d : length (drop 8 l) ≡ 8 * n = length-drop 8 l ∙ omega arith in
     rw (bitsN-front 8 l (omega arith), bits-of-bytes n (drop 8 l) d) (take-append-drop 8 l)
-
--- each is a byte
-abbrev pub areBytes : List ℕ → Bool
-areBytes s = allOf (λ b. ltb b 256) s
 
 -- bytes are made of their bits
 pub bytes-of-bits : (s : List ℕ) → areBytes s ≡ true → bytesOf (length s) (bitsOf s) ≡ s

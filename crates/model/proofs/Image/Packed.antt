@@ -10,10 +10,10 @@ use lib.Dec.{eqb, ltb}
 use lib.ListN.{length, replicate, length-append, length-replicate}
 use lib.Seq.{take-at}
 use Rattle.model.specs.Lists.{allOf}
-use Rattle.model.specs.Bits.{bitsN, numOf, bitsOf, packed, numAt}
+use Rattle.model.specs.Bits.{bitsN, numOf, bitsOf, packed, numAt, areBytes}
 use Rattle.model.specs.Image.{otherForm}
 use Rattle.model.proofs.Truth.{and-cut}
-use Rattle.model.proofs.Image.Bits.{areBytes, length-bitsN, num-bitsN, split, length-bitsOf, length-bytesOf, bits-of-bytes, bytes-of-bits, bytes-are}
+use Rattle.model.proofs.Image.Bits.{length-bitsN, num-bitsN, split, length-bitsOf, length-bytesOf, bits-of-bytes, bytes-of-bits, bytes-are}
 
 -- how many zero bits fill the last byte
 abbrev pub filling : List Bool → ℕ

@@ -8,23 +8,18 @@ use Rattle.pack.proofs.write_filling.Reads as write-filling-reads
 use Rattle.pack.proofs.write_first.Reads as write-first-reads
 use Rattle.pack.proofs.write_rest.Reads as write-rest-reads
 
--- src/lib.rt:92:9
 write-first-requires : tie.Need-write-first-requires
 write-first-requires c κs = search image-room
 
--- src/lib.rt:93:9
 write-rest-requires : tie.Need-write-rest-requires
 write-rest-requires c κs = search others-room
 
--- src/lib.rt:94:5
 write-filling-requires : tie.Need-write-filling-requires
 write-filling-requires c κs = search (end-reached, last-byte)
 
--- src/lib.rt:87:1
 same-length : tie.Need-same-length
 same-length c = search needs
 
--- src/lib.rt:87:1
 returns : tie.Need-returns
 returns c = search whole-put
 

@@ -7,31 +7,24 @@ use Rattle.pack.proofs.write_filling.Reads as reads
 use Rattle.pack.proofs.write_filling.Lts as lts
 use Rattle.bits.proofs.Cursor.write.Reads as write-reads
 
--- src/lib.rt:47:16
 mul-left : tie.Need-mul-left
 mul-left c = search needs
 
--- src/lib.rt:47:16
 sub-left : tie.Need-sub-left
 sub-left c = search needs
 
--- src/lib.rt:49:9
 returns : tie.Need-returns
 returns c = none-left _ _ (λ i. c .before .slice-known .given i .fits) (omega arith)
 
--- src/lib.rt:51:38
 cast-write : tie.Need-cast-write
 cast-write c = search needs
 
--- src/lib.rt:51:9
 write-requires : tie.Need-write-requires
 write-requires c κs = search needs
 
--- src/lib.rt:42:1
 same-length : tie.Need-same-length
 same-length c = search needs
 
--- src/lib.rt:42:1
 returns-2 : tie.Need-returns-2
 returns-2 c = search left-zero
 

@@ -8,23 +8,18 @@ use Rattle.pack.proofs.write_table_head.Reads as write-table-head-reads
 use Rattle.put.proofs.assignments.Reads as assignments-reads
 use Rattle.put.proofs.elements.Reads as elements-reads
 
--- src/lib.rt:65:9
 write-table-head-requires : tie.Need-write-table-head-requires
 write-table-head-requires c κs = search head-room
 
--- src/lib.rt:66:9
 elements-requires : tie.Need-elements-requires
 elements-requires c κs = search elements-room
 
--- src/lib.rt:67:5
 assignments-requires : tie.Need-assignments-requires
 assignments-requires c κs = search assignments-room
 
--- src/lib.rt:60:1
 same-length : tie.Need-same-length
 same-length c = search needs
 
--- src/lib.rt:60:1
 returns : tie.Need-returns
 returns c = search first-put
 

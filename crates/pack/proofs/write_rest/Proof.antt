@@ -8,23 +8,18 @@ use Rattle.put.proofs.associations.Reads as associations-reads
 use Rattle.put.proofs.processes.Reads as processes-reads
 use Rattle.put.proofs.prohibitions.Reads as prohibitions-reads
 
--- src/lib.rt:67:9
 associations-requires : tie.Need-associations-requires
 associations-requires c κs = search room-first
 
--- src/lib.rt:68:9
 prohibitions-requires : tie.Need-prohibitions-requires
 prohibitions-requires c κs = search room-second
 
--- src/lib.rt:69:5
 processes-requires : tie.Need-processes-requires
 processes-requires c κs = search room-third
 
--- src/lib.rt:62:1
 same-length : tie.Need-same-length
 same-length c = search needs
 
--- src/lib.rt:62:1
 returns : tie.Need-returns
 returns c = search three-put
 

@@ -11,55 +11,42 @@ use Rattle.table.proofs.prohibition_count.Reads as prohibition-count-reads
 use Rattle.weigh.proofs.element_count.Reads as element-count-reads
 use Rattle.weigh.proofs.process_count.Reads as process-count-reads
 
--- src/lib.rt:47:20
 element-count-requires : tie.Need-element-count-requires
 element-count-requires c κs = search needs
 
--- src/lib.rt:47:20
 cast-elements : tie.Need-cast-elements
 cast-elements c = search needs
 
--- src/lib.rt:48:21
 process-count-requires : tie.Need-process-count-requires
 process-count-requires c κs = search needs
 
--- src/lib.rt:48:21
 cast-processes : tie.Need-cast-processes
 cast-processes c = search needs
 
--- src/lib.rt:52:9
 assignment-count-requires : tie.Need-assignment-count-requires
 assignment-count-requires c κs = search needs
 
--- src/lib.rt:52:9
 cast-write-head : tie.Need-cast-write-head
 cast-write-head c = search needs
 
--- src/lib.rt:53:9
 association-count-requires : tie.Need-association-count-requires
 association-count-requires c κs = search needs
 
--- src/lib.rt:53:9
 cast-write-head-2 : tie.Need-cast-write-head-2
 cast-write-head-2 c = search needs
 
--- src/lib.rt:54:9
 prohibition-count-requires : tie.Need-prohibition-count-requires
 prohibition-count-requires c κs = search needs
 
--- src/lib.rt:54:9
 cast-write-head-3 : tie.Need-cast-write-head-3
 cast-write-head-3 c = search needs
 
--- src/lib.rt:49:5
 write-head-requires : tie.Need-write-head-requires
 write-head-requires c κs = search needs
 
--- src/lib.rt:42:1
 same-length : tie.Need-same-length
 same-length c = search needs
 
--- src/lib.rt:42:1
 returns : tie.Need-returns
 returns c = search head-placed
 

@@ -5,10 +5,6 @@ use Rattle.request.proofs.are_absent.Tie as tie
 use Rattle.request.proofs.are_absent.Reads as reads
 use Rattle.request.proofs.are_absent.Lts as lts
 use Rattle.request.proofs.is_absent.Reads as is-absent-reads
-use Rattle.request.proofs.kinds_of.Reads as kinds-of-reads
-
-kinds-of-requires : tie.Need-kinds-of-requires
-kinds-of-requires c κs = search needs
 
 array-read-is-absent : tie.Need-array-read-is-absent
 array-read-is-absent c = search needs
@@ -41,7 +37,6 @@ pub are-absent-spec : {M : Type 1} → statement M
 are-absent-spec =
     tie.close
     (tie.spec
-    kinds-of-requires
     array-read-is-absent
     is-absent-requires
     returns

@@ -5,10 +5,6 @@ use Rattle.request.proofs.are_bad.Tie as tie
 use Rattle.request.proofs.are_bad.Reads as reads
 use Rattle.request.proofs.are_bad.Lts as lts
 use Rattle.request.proofs.is_bad.Reads as is-bad-reads
-use Rattle.request.proofs.kinds_of.Reads as kinds-of-reads
-
-kinds-of-requires : tie.Need-kinds-of-requires
-kinds-of-requires c κs = search needs
 
 array-read-is-bad : tie.Need-array-read-is-bad
 array-read-is-bad c = search needs
@@ -41,7 +37,6 @@ pub are-bad-spec : {M : Type 1} → statement M
 are-bad-spec =
     tie.close
     (tie.spec
-    kinds-of-requires
     array-read-is-bad
     is-bad-requires
     returns

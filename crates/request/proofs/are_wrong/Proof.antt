@@ -5,10 +5,6 @@ use Rattle.request.proofs.are_wrong.Tie as tie
 use Rattle.request.proofs.are_wrong.Reads as reads
 use Rattle.request.proofs.are_wrong.Lts as lts
 use Rattle.request.proofs.is_wrong.Reads as is-wrong-reads
-use Rattle.request.proofs.kinds_of.Reads as kinds-of-reads
-
-kinds-of-requires : tie.Need-kinds-of-requires
-kinds-of-requires c κs = search needs
 
 array-read-is-wrong : tie.Need-array-read-is-wrong
 array-read-is-wrong c = search needs
@@ -41,7 +37,6 @@ pub are-wrong-spec : {M : Type 1} → statement M
 are-wrong-spec =
     tie.close
     (tie.spec
-    kinds-of-requires
     array-read-is-wrong
     is-wrong-requires
     returns

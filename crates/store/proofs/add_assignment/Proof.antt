@@ -6,35 +6,27 @@ use Rattle.store.proofs.add_assignment.Reads as reads
 use Rattle.store.proofs.add_assignment.Lts as lts
 use Rattle.group.proofs.add.Reads as add-reads
 
--- src/lib.rt:33:16
 slice-read-if1 : tie.Need-slice-read-if1
 slice-read-if1 c = search needs
 
--- src/lib.rt:34:9
 returns : tie.Need-returns
 returns c = search assignment-full
 
--- src/lib.rt:36:31
 mul-t5 : tie.Need-mul-t5
 mul-t5 c = search needs
 
--- src/lib.rt:36:31
 add-t11 : tie.Need-add-t11
 add-t11 c = search needs
 
--- src/lib.rt:36:29
 slice-aggregate-add : tie.Need-slice-aggregate-add
 slice-aggregate-add c = search needs
 
--- src/lib.rt:36:5
 add-requires : tie.Need-add-requires
 add-requires c κs = search needs
 
--- src/lib.rt:27:1
 same-length : tie.Need-same-length
 same-length c = search needs
 
--- src/lib.rt:27:1
 returns-2 : tie.Need-returns-2
 returns-2 c = search assignment-added
 

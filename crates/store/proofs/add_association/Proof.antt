@@ -6,35 +6,27 @@ use Rattle.store.proofs.add_association.Reads as reads
 use Rattle.store.proofs.add_association.Lts as lts
 use Rattle.group.proofs.add.Reads as add-reads
 
--- src/lib.rt:68:16
 slice-read-if1 : tie.Need-slice-read-if1
 slice-read-if1 c = search needs
 
--- src/lib.rt:69:9
 returns : tie.Need-returns
 returns c = search association-full
 
--- src/lib.rt:71:32
 mul-t6 : tie.Need-mul-t6
 mul-t6 c = search needs
 
--- src/lib.rt:71:32
 add-t12 : tie.Need-add-t12
 add-t12 c = search needs
 
--- src/lib.rt:71:30
 slice-aggregate-add : tie.Need-slice-aggregate-add
 slice-aggregate-add c = search needs
 
--- src/lib.rt:71:5
 add-requires : tie.Need-add-requires
 add-requires c κs = search needs
 
--- src/lib.rt:62:1
 same-length : tie.Need-same-length
 same-length c = search needs
 
--- src/lib.rt:62:1
 returns-2 : tie.Need-returns-2
 returns-2 c = search association-added
 

@@ -6,31 +6,24 @@ use Rattle.store.proofs.has_association.Reads as reads
 use Rattle.store.proofs.has_association.Lts as lts
 use Rattle.group.proofs.find.Reads as find-reads
 
--- src/lib.rt:95:13
 shared-slice-read-n : tie.Need-shared-slice-read-n
 shared-slice-read-n c = search needs
 
--- src/lib.rt:95:13
 cast-n : tie.Need-cast-n
 cast-n c = search needs
 
--- src/lib.rt:96:33
 mul-t7 : tie.Need-mul-t7
 mul-t7 c = search needs
 
--- src/lib.rt:96:33
 add-t10 : tie.Need-add-t10
 add-t10 c = search needs
 
--- src/lib.rt:96:31
 slice-aggregate-find : tie.Need-slice-aggregate-find
 slice-aggregate-find c = search needs
 
--- src/lib.rt:96:5
 find-requires : tie.Need-find-requires
 find-requires c κs = search needs
 
--- src/lib.rt:89:1
 returns : tie.Need-returns
 returns c = search association-found
 

@@ -5,23 +5,18 @@ use Rattle.store.proofs.set_kind.Tie as tie
 use Rattle.store.proofs.set_kind.Reads as reads
 use Rattle.store.proofs.set_kind.Lts as lts
 
--- src/lib.rt:14:9
 add-mem : tie.Need-add-mem
 add-mem c = search needs
 
--- src/lib.rt:14:5
 mul-mem : tie.Need-mul-mem
 mul-mem c = search needs
 
--- src/lib.rt:14:5
 slice-write-mem : tie.Need-slice-write-mem
 slice-write-mem c = search needs
 
--- src/lib.rt:9:1
 same-length : tie.Need-same-length
 same-length c = search needs
 
--- src/lib.rt:9:1
 returns : tie.Need-returns
 returns c = search kind-set
 

@@ -7,31 +7,24 @@ use Rattle.store.proofs.take_assignments_of.Lts as lts
 use Rattle.group.proofs.remove.Reads as remove-reads
 use Rattle.table.proofs.first_of.Reads as first-of-reads
 
--- src/lib.rt:56:9
 first-of-requires : tie.Need-first-of-requires
 first-of-requires c κs = search needs
 
--- src/lib.rt:57:35
 add-first-of : tie.Need-add-first-of
 add-first-of c = search needs
 
--- src/lib.rt:57:9
 first-of-requires-2 : tie.Need-first-of-requires-2
 first-of-requires-2 c κs = search needs
 
--- src/lib.rt:58:41
 sub-remove : tie.Need-sub-remove
 sub-remove c = search first-order
 
--- src/lib.rt:58:5
 remove-requires : tie.Need-remove-requires
 remove-requires c κs = search needs
 
--- src/lib.rt:51:1
 same-length : tie.Need-same-length
 same-length c = search needs
 
--- src/lib.rt:51:1
 returns : tie.Need-returns
 returns c = search assignments-taken
 

@@ -15,43 +15,33 @@ Inv-loop list₀ at first n i₀ list i = length list ≡ length list₀
 abbrev μ-loop : tie.MeasureT-loop
 μ-loop list₀ at first n i₀ list i = n - i
 
--- src/main.rt:155:5
 loop-holds : tie.Need-loop-holds Inv-loop μ-loop
 loop-holds c = omega arith
 
--- src/main.rt:158:27
 cast-put : tie.Need-cast-put Inv-loop μ-loop
 cast-put c = omega arith
 
--- src/main.rt:158:13
 add-put : tie.Need-add-put Inv-loop μ-loop
 add-put c = omega arith
 
--- src/main.rt:159:13
 wrapping-add-u32-requires : tie.Need-wrapping-add-u32-requires Inv-loop μ-loop
 wrapping-add-u32-requires c κs = omega arith
 
--- src/main.rt:156:9
 put-requires : tie.Need-put-requires Inv-loop μ-loop
 put-requires c κs = omega arith
 
--- src/main.rt:161:9
 add-i : tie.Need-add-i Inv-loop μ-loop
 add-i c = omega arith
 
--- src/main.rt:155:5
 loop-less : tie.Need-loop-less Inv-loop μ-loop
 loop-less c = omega arith
 
--- src/main.rt:155:5
 loop-again : tie.Need-loop-again Inv-loop μ-loop
 loop-again c = omega arith
 
--- src/main.rt:153:1
 same-length : tie.Need-same-length Inv-loop μ-loop
 same-length c = omega arith
 
--- src/main.rt:153:1
 returns : tie.Need-returns Inv-loop μ-loop
 returns c = omega arith
 

@@ -16,47 +16,36 @@ Inv-loop script mem₀ idx₀ ids₀ steps k₀ i₀ mem idx ids k i =
 abbrev μ-loop : tie.MeasureT-loop
 μ-loop script mem₀ idx₀ ids₀ steps k₀ i₀ mem idx ids k i = steps - i
 
--- src/main.rt:556:5
 loop-holds : tie.Need-loop-holds Inv-loop μ-loop
 loop-holds c = omega arith
 
--- src/main.rt:557:53
 mul-order-at : tie.Need-mul-order-at Inv-loop μ-loop
 mul-order-at c = omega arith
 
--- src/main.rt:557:36
 order-at-requires : tie.Need-order-at-requires Inv-loop μ-loop
 order-at-requires c κs = omega arith
 
--- src/main.rt:557:9
 turn-requires : tie.Need-turn-requires Inv-loop μ-loop
 turn-requires c κs = omega arith
 
--- src/main.rt:558:9
 add-i : tie.Need-add-i Inv-loop μ-loop
 add-i c = omega arith
 
--- src/main.rt:556:5
 loop-less : tie.Need-loop-less Inv-loop μ-loop
 loop-less c = omega arith
 
--- src/main.rt:556:5
 loop-again : tie.Need-loop-again Inv-loop μ-loop
 loop-again c = omega arith
 
--- src/main.rt:546:1
 same-length : tie.Need-same-length Inv-loop μ-loop
 same-length c = omega arith
 
--- src/main.rt:546:1
 same-length-2 : tie.Need-same-length-2 Inv-loop μ-loop
 same-length-2 c = omega arith
 
--- src/main.rt:546:1
 same-length-3 : tie.Need-same-length-3 Inv-loop μ-loop
 same-length-3 c = omega arith
 
--- src/main.rt:546:1
 returns : tie.Need-returns Inv-loop μ-loop
 returns c = omega arith
 

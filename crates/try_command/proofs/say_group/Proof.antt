@@ -17,59 +17,45 @@ Inv-loop letter mem from to listed count₀ sum₀ i₀ count sum i = from ≤ i
 abbrev μ-loop : tie.MeasureT-loop
 μ-loop letter mem from to listed count₀ sum₀ i₀ count sum i = to - i
 
--- src/main.rt:96:22
 slice-aggregate-write-all : tie.Need-slice-aggregate-write-all Inv-loop μ-loop
 slice-aggregate-write-all c = omega arith
 
--- src/main.rt:96:5
 write-all-requires : tie.Need-write-all-requires Inv-loop μ-loop
 write-all-requires c κs = omega arith
 
--- src/main.rt:100:5
 loop-holds : tie.Need-loop-holds Inv-loop μ-loop
 loop-holds c = omega arith
 
--- src/main.rt:101:13
 word-at-requires : tie.Need-word-at-requires Inv-loop μ-loop
 word-at-requires c κs = omega arith
 
--- src/main.rt:102:19
 sub-list-word : tie.Need-sub-list-word Inv-loop μ-loop
 sub-list-word c = omega arith
 
--- src/main.rt:102:9
 list-word-requires : tie.Need-list-word-requires Inv-loop μ-loop
 list-word-requires c κs = omega arith
 
--- src/main.rt:103:9
 counted-requires : tie.Need-counted-requires Inv-loop μ-loop
 counted-requires c κs = omega arith
 
--- src/main.rt:104:9
 mix-requires : tie.Need-mix-requires Inv-loop μ-loop
 mix-requires c κs = omega arith
 
--- src/main.rt:105:9
 add-i : tie.Need-add-i Inv-loop μ-loop
 add-i c = omega arith
 
--- src/main.rt:100:5
 loop-less : tie.Need-loop-less Inv-loop μ-loop
 loop-less c = omega arith
 
--- src/main.rt:100:5
 loop-again : tie.Need-loop-again Inv-loop μ-loop
 loop-again c = omega arith
 
--- src/main.rt:107:5
 say-number-requires : tie.Need-say-number-requires Inv-loop μ-loop
 say-number-requires c κs = omega arith
 
--- src/main.rt:108:5
 say-number-requires-2 : tie.Need-say-number-requires-2 Inv-loop μ-loop
 say-number-requires-2 c κs = omega arith
 
--- src/main.rt:95:1
 returns : tie.Need-returns Inv-loop μ-loop
 returns c = omega arith
 

@@ -17,59 +17,45 @@ Inv-loop mem₀ idx₀ seed count every x₀ sum₀ i₀ mem idx x sum i = (leng
 abbrev μ-loop : tie.MeasureT-loop
 μ-loop mem₀ idx₀ seed count every x₀ sum₀ i₀ mem idx x sum i = count - i
 
--- src/main.rt:425:5
 loop-holds : tie.Need-loop-holds Inv-loop μ-loop
 loop-holds c = omega arith
 
--- src/main.rt:426:13
 mix-requires : tie.Need-mix-requires Inv-loop μ-loop
 mix-requires c κs = omega arith
 
--- src/main.rt:427:13
 mix-requires-2 : tie.Need-mix-requires-2 Inv-loop μ-loop
 mix-requires-2 c κs = omega arith
 
--- src/main.rt:428:9
 mix-requires-3 : tie.Need-mix-requires-3 Inv-loop μ-loop
 mix-requires-3 c κs = omega arith
 
--- src/main.rt:429:13
 live-requires : tie.Need-live-requires Inv-loop μ-loop
 live-requires c κs = omega arith
 
--- src/main.rt:430:9
 add-i : tie.Need-add-i Inv-loop μ-loop
 add-i c = omega arith
 
--- src/main.rt:431:24
 watched-requires : tie.Need-watched-requires Inv-loop μ-loop
 watched-requires c κs = omega arith
 
--- src/main.rt:431:9
 mix-requires-4 : tie.Need-mix-requires-4 Inv-loop μ-loop
 mix-requires-4 c κs = omega arith
 
--- src/main.rt:432:9
 say-year-requires : tie.Need-say-year-requires Inv-loop μ-loop
 say-year-requires c κs = omega arith
 
--- src/main.rt:425:5
 loop-less : tie.Need-loop-less Inv-loop μ-loop
 loop-less c = omega arith
 
--- src/main.rt:425:5
 loop-again : tie.Need-loop-again Inv-loop μ-loop
 loop-again c = omega arith
 
--- src/main.rt:421:1
 same-length : tie.Need-same-length Inv-loop μ-loop
 same-length c = omega arith
 
--- src/main.rt:421:1
 same-length-2 : tie.Need-same-length-2 Inv-loop μ-loop
 same-length-2 c = omega arith
 
--- src/main.rt:421:1
 returns : tie.Need-returns Inv-loop μ-loop
 returns c = omega arith
 

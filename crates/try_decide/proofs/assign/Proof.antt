@@ -10,35 +10,27 @@ use Rattle.table.proofs.is_assigned.Reads as is-assigned-reads
 use Rattle.try_decide.proofs.say.Reads as say-reads
 use Rattle.try_decide.proofs.say_refusal.Reads as say-refusal-reads
 
--- src/main.rt:106:8
 is-assigned-requires : tie.Need-is-assigned-requires
 is-assigned-requires c κs = search needs
 
--- src/main.rt:107:9
 say-requires : tie.Need-say-requires
 say-requires c κs = search needs
 
--- src/main.rt:108:9
 same-length : tie.Need-same-length
 same-length c = search needs
 
--- src/main.rt:108:9
 returns : tie.Need-returns
 returns c = search needs
 
--- src/main.rt:110:17
 add-assignment-requires : tie.Need-add-assignment-requires
 add-assignment-requires c κs = (search needs, (omega arith, (omega arith, search not-assigned)))
 
--- src/main.rt:110:5
 say-refusal-requires : tie.Need-say-refusal-requires
 say-refusal-requires c κs = search needs
 
--- src/main.rt:101:1
 same-length-2 : tie.Need-same-length-2
 same-length-2 c = search needs
 
--- src/main.rt:101:1
 returns-2 : tie.Need-returns-2
 returns-2 c = search needs
 

@@ -5,11 +5,9 @@ use Rattle.try_decide.proofs.bytes_of.Tie as tie
 use Rattle.try_decide.proofs.bytes_of.Reads as reads
 use Rattle.try_decide.proofs.bytes_of.Lts as lts
 
--- src/main.rt:163:9
 returns : tie.Need-returns
 returns c = search (needs, counts)
 
--- src/main.rt:159:1
 returns-2 : tie.Need-returns-2
 returns-2 c = search (needs, counts)
 

@@ -14,83 +14,63 @@ use Rattle.try_decide.proofs.give_user.Reads as give-user-reads
 use Rattle.try_decide.proofs.listed.Reads as listed-reads
 use Rattle.try_decide.proofs.say.Reads as say-reads
 
--- src/main.rt:207:9
 holds-requires : tie.Need-holds-requires
 holds-requires c κs = search needs
 
--- src/main.rt:208:9
 say-requires : tie.Need-say-requires
 say-requires c κs = search needs
 
--- src/main.rt:209:9
 same-length : tie.Need-same-length
 same-length c = search needs
 
--- src/main.rt:209:9
 returns : tie.Need-returns
 returns c = search needs
 
--- src/main.rt:212:9
 give-kind-requires : tie.Need-give-kind-requires
 give-kind-requires c κs = (search tested, omega arith)
 
--- src/main.rt:213:9
 same-length-2 : tie.Need-same-length-2
 same-length-2 c = search needs
 
--- src/main.rt:213:9
 returns-2 : tie.Need-returns-2
 returns-2 c = search needs
 
--- src/main.rt:216:9
 give-user-requires : tie.Need-give-user-requires
 give-user-requires c κs = (search tested, omega arith)
 
--- src/main.rt:217:9
 same-length-3 : tie.Need-same-length-3
 same-length-3 c = search needs
 
--- src/main.rt:217:9
 returns-3 : tie.Need-returns-3
 returns-3 c = search needs
 
--- src/main.rt:220:9
 assign-requires : tie.Need-assign-requires
 assign-requires c κs = (search tested, (omega arith, omega arith))
 
--- src/main.rt:221:9
 same-length-4 : tie.Need-same-length-4
 same-length-4 c = search needs
 
--- src/main.rt:221:9
 returns-4 : tie.Need-returns-4
 returns-4 c = search needs
 
--- src/main.rt:224:9
 associate-requires : tie.Need-associate-requires
 associate-requires c κs = (search tested, (omega arith, omega arith))
 
--- src/main.rt:225:9
 same-length-5 : tie.Need-same-length-5
 same-length-5 c = search needs
 
--- src/main.rt:225:9
 returns-5 : tie.Need-returns-5
 returns-5 c = search needs
 
--- src/main.rt:228:32
 listed-requires : tie.Need-listed-requires
 listed-requires c κs = search needs
 
--- src/main.rt:228:5
 finish-requires : tie.Need-finish-requires
 finish-requires c κs = search tested
 
--- src/main.rt:206:1
 same-length-6 : tie.Need-same-length-6
 same-length-6 c = search needs
 
--- src/main.rt:206:1
 returns-6 : tie.Need-returns-6
 returns-6 c = search needs
 

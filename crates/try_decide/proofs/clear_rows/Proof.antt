@@ -14,39 +14,30 @@ Inv-loop rows₀ n i₀ rows i = length rows ≡ n
 abbrev μ-loop : tie.MeasureT-loop
 μ-loop rows₀ n i₀ rows i = n - i
 
--- src/main.rt:343:5
 loop-holds : tie.Need-loop-holds Inv-loop μ-loop
 loop-holds c = omega arith
 
--- src/main.rt:344:19
 unused-row-requires : tie.Need-unused-row-requires Inv-loop μ-loop
 unused-row-requires c κs = omega arith
 
--- src/main.rt:344:9
 mul-t6 : tie.Need-mul-t6 Inv-loop μ-loop
 mul-t6 c = omega arith
 
--- src/main.rt:344:9
 slice-set-from-rows : tie.Need-slice-set-from-rows Inv-loop μ-loop
 slice-set-from-rows c = omega arith
 
--- src/main.rt:345:9
 add-i : tie.Need-add-i Inv-loop μ-loop
 add-i c = omega arith
 
--- src/main.rt:343:5
 loop-less : tie.Need-loop-less Inv-loop μ-loop
 loop-less c = omega arith
 
--- src/main.rt:343:5
 loop-again : tie.Need-loop-again Inv-loop μ-loop
 loop-again c = simp length-set (omega arith)
 
--- src/main.rt:340:1
 same-length : tie.Need-same-length Inv-loop μ-loop
 same-length c = omega arith
 
--- src/main.rt:340:1
 returns : tie.Need-returns Inv-loop μ-loop
 returns c = omega arith
 

@@ -8,55 +8,42 @@ use Rattle.try_decide.proofs.count.Reads as count-reads
 use Rattle.try_decide.proofs.prohibit.Reads as prohibit-reads
 use Rattle.try_decide.proofs.words_of.Reads as words-of-reads
 
--- src/main.rt:192:22
 count-requires : tie.Need-count-requires
 count-requires c κs = search needs
 
--- src/main.rt:192:41
 slice-aggregate-words-of : tie.Need-slice-aggregate-words-of
 slice-aggregate-words-of c = search needs
 
--- src/main.rt:192:9
 words-of-requires : tie.Need-words-of-requires
 words-of-requires c κs = search needs
 
--- src/main.rt:193:22
 count-requires-2 : tie.Need-count-requires-2
 count-requires-2 c κs = search needs
 
--- src/main.rt:193:41
 slice-aggregate-words-of-2 : tie.Need-slice-aggregate-words-of-2
 slice-aggregate-words-of-2 c = search needs
 
--- src/main.rt:193:9
 words-of-requires-2 : tie.Need-words-of-requires-2
 words-of-requires-2 c κs = search needs
 
--- src/main.rt:200:9
 array-share-prefix-inclusions : tie.Need-array-share-prefix-inclusions
 array-share-prefix-inclusions c = search needs
 
--- src/main.rt:200:9
 slice-aggregate-prohibit : tie.Need-slice-aggregate-prohibit
 slice-aggregate-prohibit c = search needs
 
--- src/main.rt:201:9
 array-share-prefix-exclusions : tie.Need-array-share-prefix-exclusions
 array-share-prefix-exclusions c = search needs
 
--- src/main.rt:201:9
 slice-aggregate-prohibit-2 : tie.Need-slice-aggregate-prohibit-2
 slice-aggregate-prohibit-2 c = search needs
 
--- src/main.rt:194:5
 prohibit-requires : tie.Need-prohibit-requires
 prohibit-requires c κs = (search needs, omega arith)
 
--- src/main.rt:189:1
 same-length : tie.Need-same-length
 same-length c = search needs
 
--- src/main.rt:189:1
 returns : tie.Need-returns
 returns c = search needs
 

@@ -5,11 +5,9 @@ use Rattle.try_decide.proofs.rows_of.Tie as tie
 use Rattle.try_decide.proofs.rows_of.Reads as reads
 use Rattle.try_decide.proofs.rows_of.Lts as lts
 
--- src/main.rt:406:9
 returns : tie.Need-returns
 returns c = search (needs, first-are)
 
--- src/main.rt:401:1
 returns-2 : tie.Need-returns-2
 returns-2 c = search (needs, first-are)
 

@@ -14,39 +14,30 @@ Inv-loop script mem₀ idx₀ steps k₀ i₀ mem idx k i = (length mem ≡ leng
 abbrev μ-loop : tie.MeasureT-loop
 μ-loop script mem₀ idx₀ steps k₀ i₀ mem idx k i = steps - i
 
--- src/main.rt:665:5
 loop-holds : tie.Need-loop-holds Inv-loop μ-loop
 loop-holds c = omega arith
 
--- src/main.rt:666:26
 mul-turn : tie.Need-mul-turn Inv-loop μ-loop
 mul-turn c = omega arith
 
--- src/main.rt:666:9
 turn-requires : tie.Need-turn-requires Inv-loop μ-loop
 turn-requires c κs = omega arith
 
--- src/main.rt:667:9
 add-i : tie.Need-add-i Inv-loop μ-loop
 add-i c = omega arith
 
--- src/main.rt:665:5
 loop-less : tie.Need-loop-less Inv-loop μ-loop
 loop-less c = omega arith
 
--- src/main.rt:665:5
 loop-again : tie.Need-loop-again Inv-loop μ-loop
 loop-again c = omega arith
 
--- src/main.rt:642:1
 same-length : tie.Need-same-length Inv-loop μ-loop
 same-length c = omega arith
 
--- src/main.rt:642:1
 same-length-2 : tie.Need-same-length-2 Inv-loop μ-loop
 same-length-2 c = omega arith
 
--- src/main.rt:642:1
 returns : tie.Need-returns Inv-loop μ-loop
 returns c = omega arith
 

@@ -13,39 +13,30 @@ Inv-loop rows n all i₀ i = i ≤ all
 abbrev μ-loop : tie.MeasureT-loop
 μ-loop rows n all i₀ i = all - i
 
--- src/main.rt:365:5
 loop-holds : tie.Need-loop-holds Inv-loop μ-loop
 loop-holds c = omega arith
 
--- src/main.rt:367:13
 returns : tie.Need-returns Inv-loop μ-loop
 returns c = search needs
 
--- src/main.rt:369:17
 mul-say-row : tie.Need-mul-say-row Inv-loop μ-loop
 mul-say-row c = omega arith
 
--- src/main.rt:369:17
 shared-slice-copy-out-say-row : tie.Need-shared-slice-copy-out-say-row Inv-loop μ-loop
 shared-slice-copy-out-say-row c = omega arith
 
--- src/main.rt:369:9
 say-row-requires : tie.Need-say-row-requires Inv-loop μ-loop
 say-row-requires c κs = omega arith
 
--- src/main.rt:370:9
 add-i : tie.Need-add-i Inv-loop μ-loop
 add-i c = omega arith
 
--- src/main.rt:365:5
 loop-less : tie.Need-loop-less Inv-loop μ-loop
 loop-less c = omega arith
 
--- src/main.rt:365:5
 loop-again : tie.Need-loop-again Inv-loop μ-loop
 loop-again c = omega arith
 
--- src/main.rt:362:1
 returns-2 : tie.Need-returns-2 Inv-loop μ-loop
 returns-2 c = search needs
 

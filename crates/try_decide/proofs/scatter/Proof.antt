@@ -15,39 +15,30 @@ Inv-loop idx₀ seed share n x₀ i₀ idx x i = length idx ≡ n
 abbrev μ-loop : tie.MeasureT-loop
 μ-loop idx₀ seed share n x₀ i₀ idx x i = n - i
 
--- src/main.rt:267:5
 loop-holds : tie.Need-loop-holds Inv-loop μ-loop
 loop-holds c = omega arith
 
--- src/main.rt:268:9
 next-requires : tie.Need-next-requires Inv-loop μ-loop
 next-requires c κs = omega arith
 
--- src/main.rt:269:18
 byte-of-requires : tie.Need-byte-of-requires Inv-loop μ-loop
 byte-of-requires c κs = omega arith
 
--- src/main.rt:269:9
 slice-write-idx : tie.Need-slice-write-idx Inv-loop μ-loop
 slice-write-idx c = omega arith
 
--- src/main.rt:270:9
 add-i : tie.Need-add-i Inv-loop μ-loop
 add-i c = omega arith
 
--- src/main.rt:267:5
 loop-less : tie.Need-loop-less Inv-loop μ-loop
 loop-less c = omega arith
 
--- src/main.rt:267:5
 loop-again : tie.Need-loop-again Inv-loop μ-loop
 loop-again c = simp length-set (omega arith)
 
--- src/main.rt:263:1
 same-length : tie.Need-same-length Inv-loop μ-loop
 same-length c = omega arith
 
--- src/main.rt:263:1
 returns : tie.Need-returns Inv-loop μ-loop
 returns c = omega arith
 

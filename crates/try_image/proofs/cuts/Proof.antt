@@ -16,43 +16,33 @@ Inv-loop mem₀ bytes room₀ n sum₀ i₀ mem room sum i = (i ≤ n) × (lengt
 abbrev μ-loop : tie.MeasureT-loop
 μ-loop mem₀ bytes room₀ n sum₀ i₀ mem room sum i = n - i
 
--- src/main.rt:209:5
 loop-holds : tie.Need-loop-holds Inv-loop μ-loop
 loop-holds c = omega arith
 
--- src/main.rt:210:9
 attempt-first-requires : tie.Need-attempt-first-requires Inv-loop μ-loop
 attempt-first-requires c κs = omega arith
 
--- src/main.rt:211:9
 add-i : tie.Need-add-i Inv-loop μ-loop
 add-i c = omega arith
 
--- src/main.rt:209:5
 loop-less : tie.Need-loop-less Inv-loop μ-loop
 loop-less c = omega arith
 
--- src/main.rt:209:5
 loop-again : tie.Need-loop-again Inv-loop μ-loop
 loop-again c = omega arith
 
--- src/main.rt:213:13
 attempt-requires : tie.Need-attempt-requires Inv-loop μ-loop
 attempt-requires c κs = omega arith
 
--- src/main.rt:213:5
 say-sum-requires : tie.Need-say-sum-requires Inv-loop μ-loop
 say-sum-requires c κs = omega arith
 
--- src/main.rt:206:1
 same-length : tie.Need-same-length Inv-loop μ-loop
 same-length c = omega arith
 
--- src/main.rt:206:1
 same-length-2 : tie.Need-same-length-2 Inv-loop μ-loop
 same-length-2 c = omega arith
 
--- src/main.rt:206:1
 returns : tie.Need-returns Inv-loop μ-loop
 returns c = omega arith
 

@@ -16,47 +16,36 @@ Inv-loop mem₀ bytes₀ room₀ n seed count x₀ sum₀ i₀ mem bytes room x 
 abbrev μ-loop : tie.MeasureT-loop
 μ-loop mem₀ bytes₀ room₀ n seed count x₀ sum₀ i₀ mem bytes room x sum i = count - i
 
--- src/main.rt:281:5
 loop-holds : tie.Need-loop-holds Inv-loop μ-loop
 loop-holds c = omega arith
 
--- src/main.rt:282:9
 mix-requires : tie.Need-mix-requires Inv-loop μ-loop
 mix-requires c κs = omega arith
 
--- src/main.rt:283:9
 attempt-damaged-requires : tie.Need-attempt-damaged-requires Inv-loop μ-loop
 attempt-damaged-requires c κs = omega arith
 
--- src/main.rt:284:9
 add-i : tie.Need-add-i Inv-loop μ-loop
 add-i c = omega arith
 
--- src/main.rt:281:5
 loop-less : tie.Need-loop-less Inv-loop μ-loop
 loop-less c = omega arith
 
--- src/main.rt:281:5
 loop-again : tie.Need-loop-again Inv-loop μ-loop
 loop-again c = omega arith
 
--- src/main.rt:286:5
 say-sum-requires : tie.Need-say-sum-requires Inv-loop μ-loop
 say-sum-requires c κs = omega arith
 
--- src/main.rt:277:1
 same-length : tie.Need-same-length Inv-loop μ-loop
 same-length c = omega arith
 
--- src/main.rt:277:1
 same-length-2 : tie.Need-same-length-2 Inv-loop μ-loop
 same-length-2 c = omega arith
 
--- src/main.rt:277:1
 same-length-3 : tie.Need-same-length-3 Inv-loop μ-loop
 same-length-3 c = omega arith
 
--- src/main.rt:277:1
 returns : tie.Need-returns Inv-loop μ-loop
 returns c = omega arith
 

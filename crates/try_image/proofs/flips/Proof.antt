@@ -15,43 +15,33 @@ Inv-loop mem₀ bytes₀ room₀ n sum₀ i₀ mem bytes room sum i = (i ≤ n) 
 abbrev μ-loop : tie.MeasureT-loop
 μ-loop mem₀ bytes₀ room₀ n sum₀ i₀ mem bytes room sum i = n - i
 
--- src/main.rt:234:5
 loop-holds : tie.Need-loop-holds Inv-loop μ-loop
 loop-holds c = omega arith
 
--- src/main.rt:235:9
 attempt-flipped-requires : tie.Need-attempt-flipped-requires Inv-loop μ-loop
 attempt-flipped-requires c κs = omega arith
 
--- src/main.rt:236:9
 add-i : tie.Need-add-i Inv-loop μ-loop
 add-i c = omega arith
 
--- src/main.rt:234:5
 loop-less : tie.Need-loop-less Inv-loop μ-loop
 loop-less c = omega arith
 
--- src/main.rt:234:5
 loop-again : tie.Need-loop-again Inv-loop μ-loop
 loop-again c = omega arith
 
--- src/main.rt:238:5
 say-sum-requires : tie.Need-say-sum-requires Inv-loop μ-loop
 say-sum-requires c κs = omega arith
 
--- src/main.rt:231:1
 same-length : tie.Need-same-length Inv-loop μ-loop
 same-length c = omega arith
 
--- src/main.rt:231:1
 same-length-2 : tie.Need-same-length-2 Inv-loop μ-loop
 same-length-2 c = omega arith
 
--- src/main.rt:231:1
 same-length-3 : tie.Need-same-length-3 Inv-loop μ-loop
 same-length-3 c = omega arith
 
--- src/main.rt:231:1
 returns : tie.Need-returns Inv-loop μ-loop
 returns c = omega arith
 

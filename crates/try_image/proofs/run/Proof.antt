@@ -18,83 +18,63 @@ Inv-loop script mem₀ bytes₀ room₀ k₀ at₀ mem bytes room k at =
 abbrev μ-loop : tie.MeasureT-loop
 μ-loop script mem₀ bytes₀ room₀ k₀ at₀ mem bytes room k at = length script - at
 
--- src/main.rt:449:5
 loop-holds : tie.Need-loop-holds Inv-loop μ-loop
 loop-holds c = omega arith
 
--- src/main.rt:449:17
 sub-loop : tie.Need-sub-loop Inv-loop μ-loop
 sub-loop c = omega arith
 
--- src/main.rt:450:13
 order-at-requires : tie.Need-order-at-requires Inv-loop μ-loop
 order-at-requires c κs = omega arith
 
--- src/main.rt:451:20
 add-from : tie.Need-add-from Inv-loop μ-loop
 add-from c = omega arith
 
--- src/main.rt:452:34
 following-requires : tie.Need-following-requires Inv-loop μ-loop
 following-requires c κs = omega arith
 
--- src/main.rt:452:48
 sub-bytes-of : tie.Need-sub-bytes-of Inv-loop μ-loop
 sub-bytes-of c = omega arith
 
--- src/main.rt:452:48
 part-bytes-of-start : tie.Need-part-bytes-of-start Inv-loop μ-loop
 part-bytes-of-start c = omega arith
 
--- src/main.rt:452:48
 part-bytes-of-end : tie.Need-part-bytes-of-end Inv-loop μ-loop
 part-bytes-of-end c = omega arith
 
--- src/main.rt:452:25
 bytes-of-requires : tie.Need-bytes-of-requires Inv-loop μ-loop
 bytes-of-requires c κs = omega arith
 
--- src/main.rt:452:18
 add-to : tie.Need-add-to Inv-loop μ-loop
 add-to c = omega arith
 
--- src/main.rt:453:36
 sub-turn : tie.Need-sub-turn Inv-loop μ-loop
 sub-turn c = omega arith
 
--- src/main.rt:453:36
 part-turn-start : tie.Need-part-turn-start Inv-loop μ-loop
 part-turn-start c = omega arith
 
--- src/main.rt:453:36
 part-turn-end : tie.Need-part-turn-end Inv-loop μ-loop
 part-turn-end c = omega arith
 
--- src/main.rt:453:9
 turn-requires : tie.Need-turn-requires Inv-loop μ-loop
 turn-requires c κs = omega arith
 
--- src/main.rt:449:5
 loop-less : tie.Need-loop-less Inv-loop μ-loop
 loop-less c = omega arith
 
--- src/main.rt:449:5
 loop-again : tie.Need-loop-again Inv-loop μ-loop
 loop-again c = omega arith
 
--- src/main.rt:442:1
 same-length : tie.Need-same-length Inv-loop μ-loop
 same-length c = omega arith
 
--- src/main.rt:442:1
 same-length-2 : tie.Need-same-length-2 Inv-loop μ-loop
 same-length-2 c = omega arith
 
--- src/main.rt:442:1
 same-length-3 : tie.Need-same-length-3 Inv-loop μ-loop
 same-length-3 c = omega arith
 
--- src/main.rt:442:1
 returns : tie.Need-returns Inv-loop μ-loop
 returns c = omega arith
 

@@ -16,63 +16,48 @@ Inv-loop mem room i₀ t5 i = i ≤ 8
 abbrev μ-loop : tie.MeasureT-loop
 μ-loop mem room i₀ t5 i = 8 - i
 
--- src/main.rt:168:22
 slice-aggregate-write-all : tie.Need-slice-aggregate-write-all Inv-loop μ-loop
 slice-aggregate-write-all c = omega arith
 
--- src/main.rt:168:5
 write-all-requires : tie.Need-write-all-requires Inv-loop μ-loop
 write-all-requires c κs = omega arith
 
--- src/main.rt:170:5
 loop-holds : tie.Need-loop-holds Inv-loop μ-loop
 loop-holds c = omega arith
 
--- src/main.rt:171:20
 word-at-requires : tie.Need-word-at-requires Inv-loop μ-loop
 word-at-requires c κs = omega arith
 
--- src/main.rt:171:9
 say-number-requires : tie.Need-say-number-requires Inv-loop μ-loop
 say-number-requires c κs = omega arith
 
--- src/main.rt:172:9
 add-i : tie.Need-add-i Inv-loop μ-loop
 add-i c = omega arith
 
--- src/main.rt:170:5
 loop-less : tie.Need-loop-less Inv-loop μ-loop
 loop-less c = omega arith
 
--- src/main.rt:170:5
 loop-again : tie.Need-loop-again Inv-loop μ-loop
 loop-again c = omega arith
 
--- src/main.rt:174:16
 sum-words-requires : tie.Need-sum-words-requires Inv-loop μ-loop
 sum-words-requires c κs = omega arith
 
--- src/main.rt:174:5
 say-number-requires-2 : tie.Need-say-number-requires-2 Inv-loop μ-loop
 say-number-requires-2 c κs = omega arith
 
--- src/main.rt:175:22
 slice-aggregate-write-all-2 : tie.Need-slice-aggregate-write-all-2 Inv-loop μ-loop
 slice-aggregate-write-all-2 c = omega arith
 
--- src/main.rt:175:5
 write-all-requires-2 : tie.Need-write-all-requires-2 Inv-loop μ-loop
 write-all-requires-2 c κs = omega arith
 
--- src/main.rt:176:16
 sum-bytes-requires : tie.Need-sum-bytes-requires Inv-loop μ-loop
 sum-bytes-requires c κs = omega arith
 
--- src/main.rt:176:5
 say-number-requires-3 : tie.Need-say-number-requires-3 Inv-loop μ-loop
 say-number-requires-3 c κs = omega arith
 
--- src/main.rt:167:1
 returns : tie.Need-returns Inv-loop μ-loop
 returns c = omega arith
 

@@ -15,43 +15,33 @@ Inv-loop bytes₀ n x k y₀ i₀ bytes y i = (i ≤ k) × (length bytes ≡ len
 abbrev μ-loop : tie.MeasureT-loop
 μ-loop bytes₀ n x k y₀ i₀ bytes y i = k - i
 
--- src/main.rt:247:5
 loop-holds : tie.Need-loop-holds Inv-loop μ-loop
 loop-holds c = omega arith
 
--- src/main.rt:248:9
 mix-requires : tie.Need-mix-requires Inv-loop μ-loop
 mix-requires c κs = omega arith
 
--- src/main.rt:249:21
 cast-flip : tie.Need-cast-flip Inv-loop μ-loop
 cast-flip c = omega arith
 
--- src/main.rt:249:21
 rem-flip : tie.Need-rem-flip Inv-loop μ-loop
 rem-flip c = omega arith
 
--- src/main.rt:249:9
 flip-requires : tie.Need-flip-requires Inv-loop μ-loop
 flip-requires c κs = omega arith
 
--- src/main.rt:250:9
 add-i : tie.Need-add-i Inv-loop μ-loop
 add-i c = omega arith
 
--- src/main.rt:247:5
 loop-less : tie.Need-loop-less Inv-loop μ-loop
 loop-less c = omega arith
 
--- src/main.rt:247:5
 loop-again : tie.Need-loop-again Inv-loop μ-loop
 loop-again c = omega arith
 
--- src/main.rt:242:1
 same-length : tie.Need-same-length Inv-loop μ-loop
 same-length c = omega arith
 
--- src/main.rt:242:1
 returns : tie.Need-returns Inv-loop μ-loop
 returns c = omega arith
 

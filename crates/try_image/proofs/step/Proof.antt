@@ -7,47 +7,36 @@ use Rattle.try_image.proofs.obey.Reads as obey-reads
 use Rattle.try_image.proofs.tell.Reads as tell-reads
 use Rattle.try_image.proofs.try_many.Reads as try-many-reads
 
--- src/main.rt:346:9
 obey-requires : tie.Need-obey-requires
 obey-requires c κs = omega arith
 
--- src/main.rt:347:9
 same-length : tie.Need-same-length
 same-length c = omega arith
 
--- src/main.rt:347:9
 same-length-2 : tie.Need-same-length-2
 same-length-2 c = omega arith
 
--- src/main.rt:347:9
 same-length-3 : tie.Need-same-length-3
 same-length-3 c = omega arith
 
--- src/main.rt:347:9
 returns : tie.Need-returns
 returns c = omega arith
 
--- src/main.rt:349:5
 tell-requires : tie.Need-tell-requires
 tell-requires c κs = omega arith
 
--- src/main.rt:350:5
 try-many-requires : tie.Need-try-many-requires
 try-many-requires c κs = omega arith
 
--- src/main.rt:344:1
 same-length-4 : tie.Need-same-length-4
 same-length-4 c = omega arith
 
--- src/main.rt:344:1
 same-length-5 : tie.Need-same-length-5
 same-length-5 c = omega arith
 
--- src/main.rt:344:1
 same-length-6 : tie.Need-same-length-6
 same-length-6 c = omega arith
 
--- src/main.rt:344:1
 returns-2 : tie.Need-returns-2
 returns-2 c = omega arith
 

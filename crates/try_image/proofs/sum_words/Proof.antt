@@ -12,35 +12,27 @@ Inv-loop mem n sum₀ i₀ sum i = i ≤ n
 abbrev μ-loop : tie.MeasureT-loop
 μ-loop mem n sum₀ i₀ sum i = n - i
 
--- src/main.rt:74:5
 loop-holds : tie.Need-loop-holds Inv-loop μ-loop
 loop-holds c = omega arith
 
--- src/main.rt:75:24
 mul-mix : tie.Need-mul-mix Inv-loop μ-loop
 mul-mix c = omega arith
 
--- src/main.rt:75:24
 shared-slice-read-mix : tie.Need-shared-slice-read-mix Inv-loop μ-loop
 shared-slice-read-mix c = omega arith
 
--- src/main.rt:75:9
 mix-requires : tie.Need-mix-requires Inv-loop μ-loop
 mix-requires c κs = omega arith
 
--- src/main.rt:76:9
 add-i : tie.Need-add-i Inv-loop μ-loop
 add-i c = omega arith
 
--- src/main.rt:74:5
 loop-less : tie.Need-loop-less Inv-loop μ-loop
 loop-less c = omega arith
 
--- src/main.rt:74:5
 loop-again : tie.Need-loop-again Inv-loop μ-loop
 loop-again c = omega arith
 
--- src/main.rt:70:1
 returns : tie.Need-returns Inv-loop μ-loop
 returns c = omega arith
 

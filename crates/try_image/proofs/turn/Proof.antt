@@ -9,67 +9,51 @@ use Rattle.try_image.proofs.step.Reads as step-reads
 use Rattle.try_image.proofs.take_image.Reads as take-image-reads
 use Rattle.try_image.proofs.words_of.Reads as words-of-reads
 
--- src/main.rt:400:9
 kept-after-requires : tie.Need-kept-after-requires
 kept-after-requires c κs = omega arith
 
--- src/main.rt:401:5
 take-image-requires : tie.Need-take-image-requires
 take-image-requires c κs = omega arith
 
--- src/main.rt:402:9
 words-of-requires : tie.Need-words-of-requires
 words-of-requires c κs = omega arith
 
--- src/main.rt:403:9
 bytes-of-requires : tie.Need-bytes-of-requires
 bytes-of-requires c κs = omega arith
 
--- src/main.rt:404:9
 bytes-of-requires-2 : tie.Need-bytes-of-requires-2
 bytes-of-requires-2 c κs = omega arith
 
--- src/main.rt:406:9
 slice-relend-prefix-step : tie.Need-slice-relend-prefix-step
 slice-relend-prefix-step c = omega arith
 
--- src/main.rt:406:9
 slice-aggregate-step : tie.Need-slice-aggregate-step
 slice-aggregate-step c = omega arith
 
--- src/main.rt:407:9
 slice-relend-prefix-step-2 : tie.Need-slice-relend-prefix-step-2
 slice-relend-prefix-step-2 c = omega arith
 
--- src/main.rt:407:9
 slice-aggregate-step-2 : tie.Need-slice-aggregate-step-2
 slice-aggregate-step-2 c = omega arith
 
--- src/main.rt:408:9
 slice-relend-prefix-step-3 : tie.Need-slice-relend-prefix-step-3
 slice-relend-prefix-step-3 c = omega arith
 
--- src/main.rt:408:9
 slice-aggregate-step-3 : tie.Need-slice-aggregate-step-3
 slice-aggregate-step-3 c = omega arith
 
--- src/main.rt:405:5
 step-requires : tie.Need-step-requires
 step-requires c κs = omega arith
 
--- src/main.rt:392:1
 same-length : tie.Need-same-length
 same-length c = omega arith
 
--- src/main.rt:392:1
 same-length-2 : tie.Need-same-length-2
 same-length-2 c = omega arith
 
--- src/main.rt:392:1
 same-length-3 : tie.Need-same-length-3
 same-length-3 c = omega arith
 
--- src/main.rt:392:1
 returns : tie.Need-returns
 returns c = omega arith
 

@@ -12,67 +12,51 @@ use Rattle.try_leaves.proofs.assign.Reads as assign-reads
 use Rattle.try_leaves.proofs.give_kind.Reads as give-kind-reads
 use Rattle.try_leaves.proofs.say.Reads as say-reads
 
--- src/main.rt:73:9
 holds-requires : tie.Need-holds-requires
 holds-requires c κs = search needs
 
--- src/main.rt:74:9
 say-requires : tie.Need-say-requires
 say-requires c κs = search needs
 
--- src/main.rt:75:9
 same-length : tie.Need-same-length
 same-length c = search needs
 
--- src/main.rt:75:9
 returns : tie.Need-returns
 returns c = search needs
 
--- src/main.rt:80:9
 give-kind-requires : tie.Need-give-kind-requires
 give-kind-requires c κs = (search tested, omega arith)
 
--- src/main.rt:81:9
 same-length-2 : tie.Need-same-length-2
 same-length-2 c = search needs
 
--- src/main.rt:81:9
 returns-2 : tie.Need-returns-2
 returns-2 c = search needs
 
--- src/main.rt:84:9
 assign-requires : tie.Need-assign-requires
 assign-requires c κs = (search tested, (omega arith, omega arith))
 
--- src/main.rt:85:9
 same-length-3 : tie.Need-same-length-3
 same-length-3 c = search needs
 
--- src/main.rt:85:9
 returns-3 : tie.Need-returns-3
 returns-3 c = search needs
 
--- src/main.rt:88:9
 take-assignment-requires : tie.Need-take-assignment-requires
 take-assignment-requires c κs = (search tested, (omega arith, omega arith))
 
--- src/main.rt:89:9
 same-length-4 : tie.Need-same-length-4
 same-length-4 c = search needs
 
--- src/main.rt:89:9
 returns-4 : tie.Need-returns-4
 returns-4 c = search needs
 
--- src/main.rt:91:5
 take-assignments-of-requires : tie.Need-take-assignments-of-requires
 take-assignments-of-requires c κs = (search tested, omega arith)
 
--- src/main.rt:72:1
 same-length-5 : tie.Need-same-length-5
 same-length-5 c = search needs
 
--- src/main.rt:72:1
 returns-5 : tie.Need-returns-5
 returns-5 c = search needs
 

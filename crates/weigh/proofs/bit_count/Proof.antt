@@ -11,79 +11,60 @@ use Rattle.weigh.proofs.element_count.Reads as element-count-reads
 use Rattle.weigh.proofs.listed_count.Reads as listed-count-reads
 use Rattle.weigh.proofs.process_count.Reads as process-count-reads
 
--- src/lib.rt:69:22
 element-count-requires : tie.Need-element-count-requires
 element-count-requires c κs = search needs
 
--- src/lib.rt:69:17
 mul-named : tie.Need-mul-named
 mul-named c = search needs
 
--- src/lib.rt:69:48
 process-count-requires : tie.Need-process-count-requires
 process-count-requires c κs = search needs
 
--- src/lib.rt:69:43
 mul-named-2 : tie.Need-mul-named-2
 mul-named-2 c = search needs
 
--- src/lib.rt:69:17
 add-named : tie.Need-add-named
 add-named c = search needs
 
--- src/lib.rt:70:24
 assignment-count-requires : tie.Need-assignment-count-requires
 assignment-count-requires c κs = search needs
 
--- src/lib.rt:70:19
 mul-related : tie.Need-mul-related
 mul-related c = search needs
 
--- src/lib.rt:70:60
 association-count-requires : tie.Need-association-count-requires
 association-count-requires c κs = search needs
 
--- src/lib.rt:70:55
 mul-related-2 : tie.Need-mul-related-2
 mul-related-2 c = search needs
 
--- src/lib.rt:70:19
 add-related : tie.Need-add-related
 add-related c = search needs
 
--- src/lib.rt:71:27
 prohibition-count-requires : tie.Need-prohibition-count-requires
 prohibition-count-requires c κs = search needs
 
--- src/lib.rt:71:22
 mul-prohibited : tie.Need-mul-prohibited
 mul-prohibited c = search needs
 
--- src/lib.rt:71:63
 listed-count-requires : tie.Need-listed-count-requires
 listed-count-requires c κs = search needs
 
--- src/lib.rt:71:59
 mul-prohibited-2 : tie.Need-mul-prohibited-2
 mul-prohibited-2 c = search needs
 
--- src/lib.rt:71:22
 add-prohibited : tie.Need-add-prohibited
 add-prohibited c = search needs
 
--- src/lib.rt:72:5
 add-result : tie.Need-add-result
 add-result c = search needs
 
--- src/lib.rt:72:5
 add-result-2 : tie.Need-add-result-2
 add-result-2 c = search needs
 
--- src/lib.rt:72:5
 add-result-3 : tie.Need-add-result-3
 add-result-3 c = search needs
 
--- src/lib.rt:65:1
 returns : tie.Need-returns
 returns c = search bits-counted
 

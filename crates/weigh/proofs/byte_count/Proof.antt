@@ -6,15 +6,12 @@ use Rattle.weigh.proofs.byte_count.Reads as reads
 use Rattle.weigh.proofs.byte_count.Lts as lts
 use Rattle.weigh.proofs.bit_count.Reads as bit-count-reads
 
--- src/lib.rt:80:6
 bit-count-requires : tie.Need-bit-count-requires
 bit-count-requires c κs = search needs
 
--- src/lib.rt:80:6
 add-result : tie.Need-add-result
 add-result c = search needs
 
--- src/lib.rt:76:1
 returns : tie.Need-returns
 returns c = search bytes-counted
 

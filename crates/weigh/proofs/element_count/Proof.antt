@@ -16,35 +16,27 @@ Inv-loop mem n₀ x₀ n x = TallyTo (elementTally mem) 512 x n
 abbrev μ-loop : tie.MeasureT-loop
 μ-loop mem n₀ x₀ n x = 512 - x
 
--- src/lib.rt:28:5
 loop-holds : tie.Need-loop-holds Inv-loop μ-loop
 loop-holds c = elements-none _
 
--- src/lib.rt:29:21
 is-there-requires : tie.Need-is-there-requires Inv-loop μ-loop
 is-there-requires c κs = search needs
 
--- src/lib.rt:29:14
 one-if-requires : tie.Need-one-if-requires Inv-loop μ-loop
 one-if-requires c κs = search needs
 
--- src/lib.rt:29:9
 add-n : tie.Need-add-n Inv-loop μ-loop
 add-n c = search tally-fits
 
--- src/lib.rt:30:9
 add-x : tie.Need-add-x Inv-loop μ-loop
 add-x c = omega arith
 
--- src/lib.rt:28:5
 loop-less : tie.Need-loop-less Inv-loop μ-loop
 loop-less c = omega arith
 
--- src/lib.rt:28:5
 loop-again : tie.Need-loop-again Inv-loop μ-loop
 loop-again c = search elements-more
 
--- src/lib.rt:22:1
 returns : tie.Need-returns Inv-loop μ-loop
 returns c = search elements-all
 

@@ -16,43 +16,33 @@ Inv-loop mem count n₀ i₀ n i = ListedTo mem count i n
 abbrev μ-loop : tie.MeasureT-loop
 μ-loop mem count n₀ i₀ n i = count - i
 
--- src/lib.rt:54:9
 prohibition-count-requires : tie.Need-prohibition-count-requires Inv-loop μ-loop
 prohibition-count-requires c κs = search needs
 
--- src/lib.rt:57:5
 loop-holds : tie.Need-loop-holds Inv-loop μ-loop
 loop-holds c = listed-none _ _
 
--- src/lib.rt:58:14
 inclusion-count-at-requires : tie.Need-inclusion-count-at-requires Inv-loop μ-loop
 inclusion-count-at-requires c κs = search needs
 
--- src/lib.rt:58:50
 exclusion-count-at-requires : tie.Need-exclusion-count-at-requires Inv-loop μ-loop
 exclusion-count-at-requires c κs = search needs
 
--- src/lib.rt:58:14
 add-n : tie.Need-add-n Inv-loop μ-loop
 add-n c = omega arith
 
--- src/lib.rt:58:9
 add-n-2 : tie.Need-add-n-2 Inv-loop μ-loop
 add-n-2 c = omega arith
 
--- src/lib.rt:59:9
 add-i : tie.Need-add-i Inv-loop μ-loop
 add-i c = omega arith
 
--- src/lib.rt:57:5
 loop-less : tie.Need-loop-less Inv-loop μ-loop
 loop-less c = omega arith
 
--- src/lib.rt:57:5
 loop-again : tie.Need-loop-again Inv-loop μ-loop
 loop-again c = search listed-more
 
--- src/lib.rt:50:1
 returns : tie.Need-returns Inv-loop μ-loop
 returns c = search listed-all
 

@@ -4,11 +4,9 @@ use Rattle.weigh.proofs.one_if.Tie as tie
 use Rattle.weigh.proofs.one_if.Reads as reads
 use Rattle.weigh.proofs.one_if.Lts as lts
 
--- src/lib.rt:16:9
 returns : tie.Need-returns
 returns c = search one-for
 
--- src/lib.rt:12:1
 returns-2 : tie.Need-returns-2
 returns-2 c = search none-for
 

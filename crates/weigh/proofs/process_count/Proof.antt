@@ -16,35 +16,27 @@ Inv-loop mem n₀ i₀ n i = TallyTo (processTally mem) 256 i n
 abbrev μ-loop : tie.MeasureT-loop
 μ-loop mem n₀ i₀ n i = 256 - i
 
--- src/lib.rt:42:5
 loop-holds : tie.Need-loop-holds Inv-loop μ-loop
 loop-holds c = processes-none _
 
--- src/lib.rt:43:21
 user-of-requires : tie.Need-user-of-requires Inv-loop μ-loop
 user-of-requires c κs = search needs
 
--- src/lib.rt:43:14
 one-if-requires : tie.Need-one-if-requires Inv-loop μ-loop
 one-if-requires c κs = search needs
 
--- src/lib.rt:43:9
 add-n : tie.Need-add-n Inv-loop μ-loop
 add-n c = search tally-fits
 
--- src/lib.rt:44:9
 add-i : tie.Need-add-i Inv-loop μ-loop
 add-i c = omega arith
 
--- src/lib.rt:42:5
 loop-less : tie.Need-loop-less Inv-loop μ-loop
 loop-less c = omega arith
 
--- src/lib.rt:42:5
 loop-again : tie.Need-loop-again Inv-loop μ-loop
 loop-again c = search processes-more
 
--- src/lib.rt:36:1
 returns : tie.Need-returns Inv-loop μ-loop
 returns c = search processes-all
 

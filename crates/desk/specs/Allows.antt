@@ -1,0 +1,21 @@
+-- What each call of the desk may answer and leave: the `ensures` of its function in src/lib.rt under one name, over the words and the bytes before the
+-- call and, with a prime, after it. s are the bytes that are read, room those that are printed to; words, bytes and numbers are any whatever.
+-- Assumes nothing.
+use mathlib.Core.Path.{_≡_}
+use mathlib.Core.List.{List}
+use Prim.Native.Nat.{ℕ, _≤_}
+use Rattle.desk.specs.declared.Printed.{Printed}
+use Rattle.desk.specs.declared.Opened.{Opened}
+use Rattle.desk.specs.Printing.{wantedBytes, answering, left, beginning, leftBegun}
+
+-- wanted: never fewer than the two bytes of the length, and, since a byte is at most 255, never more than 65,535 behind them
+abbrev pub wanted : (s : List ℕ) (r : ℕ) → Type 0
+wanted s r = (r ≡ wantedBytes s) × (2 ≤ r) × (r ≤ 65537)
+
+-- begin
+abbrev pub begin : (words s room : List ℕ) (r : Opened) (words′ room′ : List ℕ) → Type 0
+begin words s room r words′ room′ = leftBegun r words′ room′ ≡ beginning s words room
+
+-- answer
+abbrev pub answer : (words s room : List ℕ) (r : Printed) (room′ : List ℕ) → Type 0
+answer words s room r room′ = left r room′ ≡ answering words s room
