@@ -9,7 +9,7 @@ use second::command::{GivenProhibition, COMMAND_NAMES};
 use second::{Command, Machine, Policy};
 use std::thread::Builder;
 
-/// Each element in the next one, the last a class: a chain through all ids, as load takes most stack for it.
+/// Each element in the next one, the last a class: a chain through all ids, which rise along it.
 fn chain(user: bool) -> Policy {
     let mut policy = Policy::new();
     for id in 1..=511 {
@@ -28,7 +28,7 @@ fn ring() -> Policy {
     policy
 }
 
-/// A chain through all ids, which rise and fall all along it.
+/// A chain through all ids, which rise and fall all along it. Ranks do not tell here: load builds the index, by recursion along the chain, and takes most stack.
 fn woven() -> Policy {
     let mut policy = chain(false);
     let id = |place: u32| (1 + place * 200 % 511) as u16;

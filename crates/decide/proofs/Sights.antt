@@ -3,18 +3,17 @@
 use mathlib.Core.Path.{_≡_, refl, sym, ap, _∙_}
 use mathlib.Core.Bool.{Bool, true, false, or-false}
 use mathlib.Core.List.{List}
-use Prim.Native.Nat.{ℕ, _+_, _*_, _-_, _/_, _%_, _^_, _≤_, _<_}
+use Prim.Native.Nat.{ℕ, _≤_, _<_}
 use native.Mathlib.Omega.{arith}
 use native.Mathlib.Decide.{decLt}
-use native.Mathlib.Nat.{zero-div}
 use borrow.Author.Tests.{lt-ltb, le-ltb, eq-eqb, ne-eqb}
-use lib.Dec.{eqb}
-use lib.ListN.{length, getD, replicate, getD-replicate, length-replicate, List·getD-eq-default}
+use lib.ListN.{length, replicate, length-replicate}
 use Rattle.model.specs.Index.{bitAt}
 use Rattle.model.specs.Policy.{userOf}
 use Rattle.model.specs.Contain.{contained}
 use Rattle.model.proofs.Truth.{clash}
 use Rattle.table.specs.View.{policyOf}
+use Rattle.index.proofs.Joins.{no-bits}
 use Rattle.climb.specs.Queued.{RowMarked}
 use Rattle.climb.proofs.Exactly.{contained-far}
 use Rattle.request.specs.declared.Request.{Request}
@@ -55,20 +54,6 @@ climbed-rows {mem} {rows} {q} {user} c = record {
   second = record { whole = λ t. absurd (clash t refl); user = c .user; element = c .second };
   third = record { whole = λ t. absurd (clash t refl); user = c .user; element = c .third };
 }
-
--- bytes that are all zero have no bit
-pub no-bits : (n j y : ℕ) → bitAt (replicate n 0) j y ≡ false
-unfolding bitAt
-no-bits n j y = rw (zeros (64 * j + y / 8)) (none (7 - y % 8))
-  where
-    zeros : (i : ℕ) → _≡_ {A = ℕ} (getD (replicate n 0) i 0) 0
-    zeros i = elim (decLt i n) [
-      | yes l ↦ getD-replicate {A = ℕ} n i 0 0 l
-      | no l ↦ List·getD-eq-default (replicate n 0) 0 {n = i} (omega (arith, length-replicate {A = ℕ} n 0))
-    ]
-
-    none : (k : ℕ) → eqb (0 / 2 ^ k % 2) 1 ≡ false
-    none k = rw (zero-div (2 ^ k)) refl
 
 -- a row whose bits are set by a climb says what the element is within
 row-says : (mem rows : List ℕ) (k x : ℕ) → x < 512 → ((y : ℕ) → y < 512 → bitAt rows k y ≡ contained (policyOf mem) x y)

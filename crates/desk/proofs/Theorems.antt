@@ -40,7 +40,6 @@ use Rattle.desk.specs.Printing.{lineRoom, firstLine, answering, told, im
 use Rattle.desk.specs.Allows as allows
 use Rattle.desk.specs.Claims.{Unique, WantedExact, BeginRefusalsExact, AnswerRefusalsExact, Begins, BeginExact, AnswerExact, NeverTen, needed, TwoSuffice, TwoRowsSuffice, LinesAre, LinesExist, DeskPrints}
 use Rattle.desk.specs.Running.{AtHand, Lines, none, then, Prints, all-printed, lines-follow}
-use Rattle.desk.proofs.Reading.{short-wanted}
 use Rattle.desk.proofs.Answering.{deny-explained, denied-accepted, denied-verdict}
 use Rattle.desk.proofs.Requests.{first-then, hand-line}
 use Rattle.desk.proofs.Apart.{first-apart}
@@ -50,7 +49,7 @@ use Rattle.desk.proofs.Results.{one-printed, one-opened, answer-refused
 -- the contract of each call allows one result
 pub unique : Unique
 unique = record {
-  wanted = λ s r q e f. e .0 ∙ sym (f .0);
+  wanted = λ s r q e f. e ∙ sym f;
   begin = λ words s room r q words′ words″ room′ room″ e f. (
     one-opened r q (ap (λ (b : Beginning). b .answers) (e ∙ sym f)),
     ap (λ (b : Beginning). b .words) (e ∙ sym f),
@@ -62,10 +61,8 @@ unique = record {
 
 -- the bytes are too few for the length or the image exactly where they are fewer than are wanted
 pub wanted-exact : WantedExact
-wanted-exact = λ s r e. (
-  λ t. ltb-true (length s) r (rw (e .0) (sym (short-wanted s) ∙ t)),
-  λ l. short-wanted s ∙ rw (sym (e .0)) (lt-ltb (length s) r l),
-)
+unfolding isShort
+wanted-exact = λ s r e. (λ t. ltb-true (length s) r (rw e t), λ l. rw (← e) (lt-ltb (length s) r l))
 
 -- each refusal of `begin` is given exactly if its line holds and none before it does, and a refused call writes nothing
 pub begin-refusals-exact : BeginRefusalsExact

@@ -3,14 +3,14 @@
 -- Assumes nothing.
 use mathlib.Core.Path.{_≡_}
 use mathlib.Core.List.{List}
-use Prim.Native.Nat.{ℕ, _≤_}
+use Prim.Native.Nat.{ℕ}
 use Rattle.desk.specs.declared.Printed.{Printed}
 use Rattle.desk.specs.declared.Opened.{Opened}
 use Rattle.desk.specs.Printing.{wantedBytes, answering, left, beginning, leftBegun}
 
--- wanted: never fewer than the two bytes of the length, and, since a byte is at most 255, never more than 65,535 behind them
+-- wanted: as many bytes as `wantedBytes` says. That these are 2 to 65,537, which is so only as a byte is at most 255, is an `ensures` of its own.
 abbrev pub wanted : (s : List ℕ) (r : ℕ) → Type 0
-wanted s r = (r ≡ wantedBytes s) × (2 ≤ r) × (r ≤ 65537)
+wanted s r = r ≡ wantedBytes s
 
 -- begin
 abbrev pub begin : (words s room : List ℕ) (r : Opened) (words′ room′ : List ℕ) → Type 0

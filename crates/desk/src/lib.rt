@@ -166,6 +166,7 @@ fn image_length(s: &[u8]) -> usize
 // How many bytes the length and the image are, as the first bytes of the input say: two where the length is not there.
 pub fn wanted(s: &[u8]) -> usize
     ensures { λ r. ⌜ allows.wanted (now (s .entry)) r ⌝ }
+    ensures { λ r. ⌜ (2 ≤ r) × (r ≤ 65537) ⌝ }
 {
     if s.len() < HEAD {
         return HEAD;

@@ -19,7 +19,7 @@ new words r words′ = (r ≡ code (newTable words .answers)) × (words′ ≡ n
 
 -- qd_load
 abbrev pub load : (words image : List ℕ) (r : ℕ) (words′ : List ℕ) → Type 0
-load words bytes r words′ = (r ≡ code (loadTable bytes words .answers)) × (words′ ≡ loadTable bytes words .words)
+load words image r words′ = (r ≡ code (loadTable image words .answers)) × (words′ ≡ loadTable image words .words)
 
 -- qd_save
 abbrev pub save : (words bytes : List ℕ) (r : ℕ) (bytes′ : List ℕ) → Type 0

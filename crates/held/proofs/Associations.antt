@@ -117,7 +117,7 @@ module _ {mem rows : List ℕ} {q : Asking} {i : ℕ} {given queue : List ℕ} {
 pub bits-none : (mem idx : List ℕ) (q : Asking) → GivenBits mem idx q 0 (replicate 64 0)
 bits-none mem idx q = record {
   size = length-replicate {A = ℕ} 64 0;
-  is = λ c l. no-bits c ∙ sym (given-none (seen idx true (q .by)) (seen idx true (q .over)) (bitAt idx) mem (q .right) c);
+  is = λ c l. no-bits 64 0 c ∙ sym (given-none (seen idx true (q .by)) (seen idx true (q .over)) (bitAt idx) mem (q .right) c);
 }
 
 -- One association more, by the bits of an index.

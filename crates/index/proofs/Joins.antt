@@ -49,7 +49,7 @@ zeros n i = elim (decLt i n) [
   | no h ↦ List·getD-eq-default {A = ℕ} (replicate n 0) 0 (omega (arith, length-replicate {A = ℕ} n 0))
 ]
 
--- a row of zeros has no bit
-pub no-bits : (y : ℕ) → bitAt (replicate 64 0) 0 y ≡ false
+-- rows of zeros have no bit
+pub no-bits : (n x y : ℕ) → bitAt (replicate n 0) x y ≡ false
 unfolding bitAt
-no-bits y = rw (zeros 64 (64 * 0 + y / 8), zero-div (2 ^ (7 - y % 8))) refl
+no-bits n x y = rw (zeros n (64 * x + y / 8), zero-div (2 ^ (7 - y % 8))) refl

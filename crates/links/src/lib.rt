@@ -258,7 +258,7 @@ fn next_of(mem: &[u32], x: u32, first: usize) -> usize
     i
 }
 
-// Whether element x is not there, is a class, or is assigned: whether its assignments, which stand from `first` on, end behind it.
+// Whether element x is not there, is a class, or is assigned. Its assignments stand from `first` on; `next` is the first behind them.
 fn is_placed(mem: &[u32], x: u32, first: usize, next: usize) -> bool
     requires { ⌜ Table (now mem) ⌝ }
     requires { ⌜ x < 512 ⌝ }

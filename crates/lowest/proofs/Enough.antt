@@ -12,7 +12,6 @@ use lib.Dec.{eqb}
 use lib.ListN.{getD, replicate}
 use Rattle.model.specs.Lists.{those, tabulate, empty}
 use Rattle.model.specs.Policy.{Association}
-use Rattle.model.specs.Explain.{lowestAssociation}
 use Rattle.model.proofs.Truth.{clash, fails-when, Tested, passes, fails, tested}
 use Rattle.table.specs.Layout.{associationCount}
 use Rattle.table.specs.View.{associationAt}
@@ -23,7 +22,7 @@ use Rattle.lowest.specs.Named.{named, authorizing, LowestOfFirst, Lowest
 use Rattle.lowest.specs.Marked.{associationsRise, LowestMarked}
 use Rattle.lowest.proofs.InOrder.{none-before}
 use Rattle.lowest.proofs.Naming.{LowestNamed, named-still, named-kept, named-far, none-far, some-more}
-use Rattle.lowest.proofs.Taken.{zeros-give-none, each-class}
+use Rattle.lowest.proofs.Taken.{givesIn, zeros-give-none, each-class}
 use Rattle.lowest.proofs.Rising.{first-start}
 use Rattle.lowest.proofs.Walked.{isClass, class-from, class-below, walked, class-passed}
 
@@ -107,18 +106,29 @@ module _ {mem : List ℕ} {q : Asking} {n c i : ℕ} {names marks queue : List �
     enough-named d =
         on (λ s k. fails-when (empty (authorizing mem q i c)) (λ e. clash (eq-eqb (getD names c 0) 0 (f .marked .lowest .none c (class-below mem q k) e)) d))
 
-  -- behind the last class each names the lowest of all
-  pub enough-end : associationsRise mem ≡ true → 512 ≤ c → LowestOfClasses mem q names
-  enough-end up l = record {
-    size = f .marked .lowest .size;
-    few = λ d h. omega (arith, f .marked .lowest .few d h, f .few, f .counted);
-    is = λ d k. elim (decLt i n) [
-      | yes s ↦ named-enough (getD names d 0) up (omega (arith, f .counted)) (zeros-give-none mem q d) (f .enough d (omega (arith, class-below mem q k)) k s) (each-class (f .marked .lowest) d (class-below mem q k)) .is
+  module _ (up : associationsRise mem ≡ true) (l : 512 ≤ c) where
+    -- behind the last class, each class of the element names the lowest of all
+    each-end : (d : ℕ) → isClass mem q d ≡ true → LowestNamed mem (givesIn mem q d) (associationCount mem) (getD names d 0)
+    each-end d k = elim (decLt i n) [
+      | yes s ↦ named-enough (getD names d 0) up (omega (arith, f .counted, f .few)) (zeros-give-none mem q d) (f .enough d (omega (arith, class-below mem q k)) k s) (each-class (f .marked .lowest) d (class-below mem q k))
       | no s ↦ let e : i ≡ associationCount mem = omega (arith, f .few, f .counted) in
-          subst (λ (m : ℕ). named mem (getD names d 0) ≡ lowestAssociation (authorizing mem q m d)) e (f .marked .lowest .is d (class-below mem q k))
-    ];
-  }
+          subst (λ (m : ℕ). LowestNamed mem (givesIn mem q d) m (getD names d 0)) e (each-class (f .marked .lowest) d (class-below mem q k))
+    ]
+
+    -- what is named behind the last class
+    pub enough-end : LowestOfClasses mem q names
+    enough-end = record {
+      size = f .marked .lowest .size;
+      few = λ d h. omega (arith, f .marked .lowest .few d h, f .few, f .counted);
+      is = λ d k. each-end d k .is;
+      none = λ d k. each-end d k .none;
+    }
 
 -- where each class names the lowest of all, so does each class of the element
 pub classes-all : {mem : List ℕ} {q : Asking} {names : List ℕ} → LowestOfFirst mem q (associationCount mem) names → LowestOfClasses mem q names
-classes-all {mem} {q} l = record { size = l .size; few = l .few; is = λ c k. l .is c (class-below mem q k) }
+classes-all {mem} {q} l = record {
+  size = l .size;
+  few = l .few;
+  is = λ c k. l .is c (class-below mem q k);
+  none = λ c k. l .none c (class-below mem q k);
+}

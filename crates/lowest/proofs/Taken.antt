@@ -25,7 +25,7 @@ use Rattle.lowest.specs.Named.{named, isBefore, isLower, isLowerAtTarget
 use Rattle.lowest.proofs.Naming.{LowestNamed, named-none, named-still, named-kept, named-lower, named-far}
 
 -- the association gives the right in class c
-abbrev givesIn : (mem : List ℕ) (q : Asking) (c : ℕ) → Association → Bool
+abbrev pub givesIn : (mem : List ℕ) (q : Asking) (c : ℕ) → Association → Bool
 givesIn mem q c = gives (contained (policyOf mem) (q .user)) (contained (policyOf mem) (q .element)) (contained (policyOf mem)) (q .right) c
 
 -- the association has the user within its attribute, the right in its set, and the element within its target

@@ -66,3 +66,5 @@ pub record LowestOfClasses (mem : List ℕ) (q : Asking) (names : List ℕ) : Ty
   pub few : (c : ℕ) → c < 512 → getD names c 0 ≤ associationCount mem
   pub is : (c : ℕ) → classOf (contained (policyOf mem) (q .element)) (policyOf mem) c ≡ true
       → named mem (getD names c 0) ≡ lowestAssociation (authorizing mem q (associationCount mem) c)
+  pub none : (c : ℕ) → classOf (contained (policyOf mem) (q .element)) (policyOf mem) c ≡ true
+      → empty (authorizing mem q (associationCount mem) c) ≡ true → getD names c 0 ≡ 0

@@ -1,4 +1,4 @@
-// The lowest association that authorizes a right over an element, in each class.
+// The lowest association that authorizes a right over an element, in each class of the element.
 ghost use mathlib.Core.Path.{_≡_};
 ghost use mathlib.Core.Bool.{true, false, cond};
 ghost use Prim.Native.Nat.{_+_, _≤_, _<_};

@@ -185,8 +185,8 @@ fn are_wrong(mem: &[u32], kinds: [u32; 3], q: Request) -> bool
     is_wrong(mem, kinds[2], q.third)
 }
 
-// Whether the process is an id of a process and the operation is one.
-fn is_call(q: Request) -> bool
+// Whether the process and the operation are in range.
+fn is_in_range(q: Request) -> bool
     ensures { λ r. ⌜ r ≡ (isProcessId (q .process) && isOperation (q .operation)) ⌝ }
 {
     if !table::is_process_id(q.process) {
@@ -212,7 +212,7 @@ pub fn refusal(mem: &[u32], q: Request) -> u32
     requires { ⌜ Table (now mem) ⌝ }
     ensures { λ r. ⌜ r ≡ refusalOf (now (mem .entry)) q ⌝ }
 {
-    if !is_call(q) {
+    if !is_in_range(q) {
         return OUT_OF_RANGE;
     }
     let kinds = kinds_of(q.operation);

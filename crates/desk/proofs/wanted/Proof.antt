@@ -8,7 +8,7 @@ use Rattle.desk.proofs.wanted.Lts as lts
 use Rattle.desk.proofs.image_length.Reads as image-length-reads
 
 returns : tie.Need-returns
-returns c = (search no-length, omega arith, omega arith)
+returns c = (search no-length, omega arith)
 
 image-length-requires : tie.Need-image-length-requires
 image-length-requires c κs = search needs
@@ -17,7 +17,7 @@ add-result : tie.Need-add-result
 add-result c = search needs
 
 returns-2 : tie.Need-returns-2
-returns-2 c = (search by-length, omega arith, omega arith)
+returns-2 c = (search by-length, omega arith)
 
 pub wanted-spec : {M : Type 1} → statement M
 wanted-spec = tie.close (tie.spec returns image-length-requires add-result returns-2)

@@ -6,12 +6,12 @@ use Rattle.request.proofs.refusal.Reads as reads
 use Rattle.request.proofs.refusal.Lts as lts
 use Rattle.request.proofs.are_bad.Reads as are-bad-reads
 use Rattle.request.proofs.are_wrong.Reads as are-wrong-reads
-use Rattle.request.proofs.is_call.Reads as is-call-reads
+use Rattle.request.proofs.is_in_range.Reads as is-in-range-reads
 use Rattle.request.proofs.kinds_of.Reads as kinds-of-reads
 use Rattle.request.proofs.names_absent.Reads as names-absent-reads
 
-is-call-requires : tie.Need-is-call-requires
-is-call-requires c κs = search needs
+is-in-range-requires : tie.Need-is-in-range-requires
+is-in-range-requires c κs = search needs
 
 returns : tie.Need-returns
 returns c = search gives-2-first
@@ -44,7 +44,7 @@ pub refusal-spec : {M : Type 1} → statement M
 refusal-spec =
     tie.close
     (tie.spec
-    is-call-requires
+    is-in-range-requires
     returns
     kinds-of-requires
     are-bad-requires

@@ -1,9 +1,9 @@
 use Rattle.request.proofs.Refused.{call-process, call-operation}
 use borrow.Author.Needs.{needs}
-use Rattle.request.proofs.is_call.Statement.{statement}
-use Rattle.request.proofs.is_call.Tie as tie
-use Rattle.request.proofs.is_call.Reads as reads
-use Rattle.request.proofs.is_call.Lts as lts
+use Rattle.request.proofs.is_in_range.Statement.{statement}
+use Rattle.request.proofs.is_in_range.Tie as tie
+use Rattle.request.proofs.is_in_range.Reads as reads
+use Rattle.request.proofs.is_in_range.Lts as lts
 use Rattle.request.proofs.is_operation.Reads as is-operation-reads
 use Rattle.table.proofs.is_process_id.Reads as is-process-id-reads
 
@@ -19,5 +19,5 @@ is-operation-requires c κs = search needs
 returns-2 : tie.Need-returns-2
 returns-2 c = search call-operation
 
-pub is-call-spec : {M : Type 1} → statement M
-is-call-spec = tie.close (tie.spec is-process-id-requires returns is-operation-requires returns-2)
+pub is-in-range-spec : {M : Type 1} → statement M
+is-in-range-spec = tie.close (tie.spec is-process-id-requires returns is-operation-requires returns-2)
