@@ -1,6 +1,7 @@
 -- What the first line is, return by return.
 -- Assumes nothing.
-use mathlib.Core.Path.{_≡_, sym, ap}
+use mathlib.Core.Path.{_≡_, sym, ap, _∙_}
+use mathlib.Core.Bool.{true}
 use mathlib.Core.List.{List, [], _∷_}
 use Prim.Native.Nat.{ℕ, _-_, _≤_, _<_}
 use native.Mathlib.Omega.{arith}
@@ -23,7 +24,7 @@ use Rattle.lines.specs.Typing.{Typed}
 use Rattle.desk.specs.declared.Opened.the-variants.{Open, Closed, Refused}
 use Rattle.desk.specs.Printing.{imageLength, isShort, wantedBytes, imageAnswer, headLine, begun, wordsIn, beginning, toldBegun}
 use Rattle.desk.specs.Allows as allows
-use Rattle.desk.proofs.Reading.{wanted-there}
+use Rattle.desk.proofs.Reading.{short-wanted, wanted-there}
 use Rattle.desk.proofs.Front.{in-front}
 
 -- "`P` and the five counts in image order": what the words say is how many records each group of the policy has
@@ -61,8 +62,8 @@ module _ (s words out : List ℕ) where
       -- "too few bytes for length or image is `L 12`, of any form"
       pub short-printed : {k : ℕ} → k ≡ wantedBytes s → length s < k → {out′ : List ℕ} {n : ℕ} → Typed (line 76 (12 ∷ [])) 0 out out′ n
           → allows.begin words s out (Closed n) words out′
-      unfolding imageAnswer isShort
-      short-printed {k} m l w = closed-printed (rw (← m, lt-ltb (length s) k l)) w
+      unfolding imageAnswer
+      short-printed {k} m l w = let f : isShort s ≡ true = short-wanted s ∙ rw (sym m) (lt-ltb (length s) k l) in closed-printed (rw f) w
 
       module _ {k : ℕ} (m : k ≡ wantedBytes s) (l : k ≤ length s) where
         -- what the image is answered: as load answers

@@ -24,7 +24,7 @@ use Rattle.table.specs.Answers.{left, told}
 use Rattle.table.proofs.Outcomes.{never}
 use Rattle.image.specs.Answers.{loadTable}
 use Rattle.image.proofs.Theorems.{load-refused, load-table, load-reads}
-use Rattle.desk.specs.Printing.{imageLength, isShort, wantedBytes, imageAnswer}
+use Rattle.desk.specs.Printing.{imageLength, isShort, imageAnswer}
 use Rattle.desk.specs.Running.{AtHand}
 use Rattle.desk.proofs.Reading.{enough}
 
@@ -45,7 +45,7 @@ behind-two n a b s = let z : 2 + n ≡ suc (suc n) = omega arith in rw z
 
 -- "too few bytes for length or image is `L 12`"; else the image is read and what stands behind it are the requests
 pub desk-is : (s : List ℕ) → desk s ≡ cond (isShort s) (line L (12 ∷ [])) (printed (readImage (imageIn s)) (drop (2 + imageLength s) s))
-unfolding desk isShort wantedBytes
+unfolding desk isShort
 desk-is [] = refl
 desk-is (a ∷ []) = refl
 desk-is (a ∷ b ∷ s) =
@@ -62,7 +62,7 @@ module _ (hand more : List ℕ) (e : isShort hand ≡ false) where
 
   -- with more behind them they still suffice
   short-in : isShort (hand ++ more) ≡ false
-  unfolding isShort wantedBytes
+  unfolding isShort
   short-in =
       let n = enough hand e in
       let l = length-append hand more in

@@ -43,6 +43,7 @@ use Rattle.desk.specs.Running.{AtHand, Lines, none, then, Prints, all-pr
 use Rattle.desk.proofs.Answering.{deny-explained, denied-accepted, denied-verdict}
 use Rattle.desk.proofs.Requests.{first-then, hand-line}
 use Rattle.desk.proofs.Apart.{first-apart}
+use Rattle.desk.proofs.Reading.{short-wanted}
 use Rattle.desk.proofs.Outputs.{desk-refused, desk-accepted}
 use Rattle.desk.proofs.Results.{one-printed, one-opened, answer-refused, answer-leaves, answer-done, answer-none, answer-bytes, answer-text, answer-short, begin-refused, begin-leaves, begin-none, begin-start, begin-table, begin-open-short, begin-closed-short}
 
@@ -61,8 +62,10 @@ unique = record {
 
 -- the bytes are too few for the length or the image exactly where they are fewer than are wanted
 pub wanted-exact : WantedExact
-unfolding isShort
-wanted-exact = λ s r e. (λ t. ltb-true (length s) r (rw e t), λ l. rw (← e) (lt-ltb (length s) r l))
+wanted-exact = λ s r e. (
+  λ t. ltb-true (length s) r (rw e (sym (short-wanted s) ∙ t)),
+  λ l. short-wanted s ∙ rw (sym e) (lt-ltb (length s) r l),
+)
 
 -- each refusal of `begin` is given exactly if its line holds and none before it does, and a refused call writes nothing
 pub begin-refusals-exact : BeginRefusalsExact

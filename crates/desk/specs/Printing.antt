@@ -1,6 +1,6 @@
 -- What the calls of the desk print, answer and leave.
 -- Assumes nothing.
-use mathlib.Core.Bool.{Bool, cond, not}
+use mathlib.Core.Bool.{Bool, true, cond, not}
 use mathlib.Core.List.{List, [], _∷_}
 use Prim.Native.Nat.{ℕ, _+_, _*_}
 use lib.Dec.{eqb, ltb}
@@ -53,13 +53,13 @@ left r bytes = record { answers = told r; leaves = bytes }
 abbrev pub imageLength : List ℕ → ℕ
 imageLength s = 256 * getD s 0 0 + getD s 1 0
 
+-- "too few bytes for length or image"
+unfoldable pub isShort : List ℕ → Bool
+isShort s = cond (ltb (length s) 2) true (ltb (length s) (2 + imageLength s))
+
 -- how many bytes the length and the image are: two where the length is not there, else two and as many as they say
 unfoldable pub wantedBytes : List ℕ → ℕ
 wantedBytes s = cond (ltb (length s) 2) 2 (2 + imageLength s)
-
--- "too few bytes for length or image": fewer than are wanted
-unfoldable pub isShort : List ℕ → Bool
-isShort s = ltb (length s) (wantedBytes s)
 
 -- the image: "too few bytes for length or image is `L 12`, of any form"
 unfoldable pub imageAnswer : (s words : List ℕ) → Answer (List ℕ)
