@@ -21,15 +21,14 @@ static bool rising(const uint32_t *words, size_t n)
     return n == 0 || (!down && words[n - 1] < 512 * 512);
 }
 
-static bool tidy(const uint32_t *record)
+static bool short_lists(const uint32_t *records, size_t n)
 {
-    uint32_t inclusions = record[2] / 8, exclusions = record[2] % 8;
-    if (inclusions > 4 || exclusions > 4)
-        return false;
-    uint32_t used = inclusions + exclusions, left = 0;
-    for (uint32_t i = 0; i < 8; i++)
-        left |= i < used ? 0 : record[3 + i];
-    return left == 0;
+    uint32_t long_ones = 0;
+    for (size_t i = 0; i < n; i++) {
+        uint32_t counts = records[PROHIBITION * i + 2];
+        long_ones |= (counts / 8 > 4) | (counts % 8 > 4);
+    }
+    return !long_ones;
 }
 
 static bool holds_table(const uint32_t *table, size_t words)
@@ -40,10 +39,7 @@ static bool holds_table(const uint32_t *table, size_t words)
         return false;
     if (!rising(table + ASSIGNMENTS, table[1]))
         return false;
-    for (uint32_t i = 0; i < table[3]; i++)
-        if (!tidy(table + PROHIBITIONS + PROHIBITION * i))
-            return false;
-    return true;
+    return short_lists(table + PROHIBITIONS, table[3]);
 }
 
 static uint32_t kind_of(const uint32_t *table, uint32_t x)

@@ -11,29 +11,24 @@ static void ask(const char *name, uint32_t process, uint32_t object)
     uint64_t told = qd_explain(table, QD_TABLE_WORDS, process, QD_READ, object, 0, 0, rows, QD_ROWS_MOST);
     uint32_t answer = told >> 32, count = (uint32_t)told;
     int granted = answer == 1 || answer == 2;
-    if (answer > QD_REFUSED) {
-        printf("%s: process %u reads %u: refused with %u\n", name, process, object, answer - QD_REFUSED);
-        return;
-    }
-    printf("%s: process %u reads %u: %s\n", name, process, object, granted ? "granted" : "denied");
-    for (const struct qd_row *row = rows; row < rows + count; row++) {
+    printf("%s: process %u reads %u: ", name, process, object);
+    if (answer > QD_REFUSED)
+        printf("refused with %u\n", answer - QD_REFUSED);
+    else
+        puts(granted ? "granted" : "denied");
+    for (const struct qd_row *row = rows; row < rows + count; row++)
         if (granted)
             printf("  right %u in class %u, by the association of %u with %u\n", row->right, row->number, row->attribute, row->target);
         else if (row->cause == 1)
             printf("  right %u of argument %u is not held: class %u lacks it\n", row->right, row->argument, row->number);
         else
             printf("  right %u of argument %u is restricted, through %u\n", row->right, row->argument, row->number);
-    }
 }
 
 int main(int count, char **words)
 {
     FILE *file = count == 2 ? fopen(words[1], "rb") : NULL;
-    if (file == NULL) {
-        puts("no image file");
-        return 1;
-    }
-    size_t length = fread(image, 1, sizeof image, file);
+    size_t length = file == NULL ? 0 : fread(image, 1, sizeof image, file); /* no file: no bytes, refused with 12 */
     uint32_t refusal = qd_load(table, QD_TABLE_WORDS, image, length);
     if (refusal) {
         printf("refused with %u\n", refusal);
@@ -42,5 +37,4 @@ int main(int count, char **words)
     ask("K1", 1, 9);
     ask("K2", 1, 10);
     ask("K3", 2, 10);
-    return 0;
 }

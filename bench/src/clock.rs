@@ -1,4 +1,5 @@
-//! Time per call, in nanoseconds: the least of some batches, each so many calls that it takes some milliseconds.
+//! Time per call, in nanoseconds: the least of some batches, each so many calls that it takes some milliseconds. What is compared is
+//! timed batch by batch in turn, so that a processor that runs faster or slower for a while does so for all of it.
 
 use std::time::{Duration, Instant};
 
@@ -6,22 +7,37 @@ use std::time::{Duration, Instant};
 const BATCH: Duration = Duration::from_millis(2);
 const BATCHES: usize = 9;
 
-/// The time of `turns` turns, for more and more turns until a batch has its length; then the least of some batches, by the turns.
-fn least(mut batch: impl FnMut(u64) -> Duration) -> f64 {
+/// The time of so many turns.
+pub type Batch<'a> = Box<dyn FnMut(u64) -> Duration + 'a>;
+
+/// How many turns of a batch have its length.
+fn turns_of(batch: &mut Batch) -> u64 {
     let mut turns = 1;
-    let mut taken = batch(turns);
-    while taken < BATCH {
+    loop {
+        let taken = batch(turns);
+        if taken >= BATCH {
+            return turns;
+        }
         let wanted = turns as f64 * 1.2 * BATCH.as_secs_f64() / taken.as_secs_f64().max(1e-9);
         turns = (wanted as u64).clamp(turns + 1, turns * 100);
-        taken = batch(turns);
     }
-    let best = (1..BATCHES).fold(taken, |best, _| best.min(batch(turns)));
-    best.as_secs_f64() * 1e9 / turns as f64
 }
 
-/// Nanoseconds a call.
-pub fn call(mut call: impl FnMut()) -> f64 {
-    least(|turns| {
+/// Nanoseconds a turn of each, the least of some batches, one of each in turn.
+pub fn least<const N: usize>(mut batches: [Batch; N]) -> [f64; N] {
+    let turns: [u64; N] = std::array::from_fn(|place| turns_of(&mut batches[place]));
+    let mut best = [f64::INFINITY; N];
+    for _ in 0..BATCHES {
+        for ((batch, turns), best) in batches.iter_mut().zip(turns).zip(&mut best) {
+            *best = best.min(batch(turns).as_secs_f64() * 1e9 / turns as f64);
+        }
+    }
+    best
+}
+
+/// Calls, one after the other.
+pub fn call<'a>(mut call: impl FnMut() + 'a) -> Batch<'a> {
+    Box::new(move |turns| {
         let start = Instant::now();
         for _ in 0..turns {
             call();
@@ -30,10 +46,14 @@ pub fn call(mut call: impl FnMut()) -> f64 {
     })
 }
 
-/// Nanoseconds a call that changes what it is given, which is put back after each call. Each call is timed by itself, and
-/// what reading the clock takes is taken off; putting back is not timed.
-pub fn changing<S>(state: &mut S, mut call: impl FnMut(&mut S), mut put_back: impl FnMut(&mut S)) -> f64 {
-    let with_clock = least(|turns| {
+/// Calls that change what they are given, which is put back after each. Each call is timed by itself, so that reading the clock is
+/// timed with it; putting back is not timed.
+pub fn changing<'a, S>(
+    state: &'a mut S,
+    mut call: impl FnMut(&mut S) + 'a,
+    mut put_back: impl FnMut(&mut S) + 'a,
+) -> Batch<'a> {
+    Box::new(move |turns| {
         let mut sum = Duration::ZERO;
         for _ in 0..turns {
             let start = Instant::now();
@@ -42,14 +62,10 @@ pub fn changing<S>(state: &mut S, mut call: impl FnMut(&mut S), mut put_back: im
             put_back(state);
         }
         sum
-    });
-    let clock = least(|turns| {
-        let mut sum = Duration::ZERO;
-        for _ in 0..turns {
-            let start = Instant::now();
-            sum += start.elapsed();
-        }
-        sum
-    });
-    with_clock - clock
+    })
+}
+
+/// Reading the clock, and nothing else.
+pub fn reading<'a>() -> Batch<'a> {
+    changing(Box::leak(Box::new(())), |()| (), |()| ())
 }

@@ -17,6 +17,7 @@ mod proved;
 mod tables;
 
 use measure::{name_of, Subject, CALLS};
+use print::Measured;
 use std::io::IsTerminal;
 use std::process::ExitCode;
 
@@ -52,7 +53,7 @@ fn main() -> ExitCode {
             }
             lines.extend(subject.measure(call));
         }
-        measured.push((table, subject.policy.counts(), lines));
+        measured.push(Measured { table, counts: subject.policy.counts(), lines });
     }
     if watched {
         eprint!("\r\x1b[K");

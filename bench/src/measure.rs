@@ -1,21 +1,23 @@
 //! Each call on a table: its answers compared, then its time.
 
-use crate::clock;
+use crate::clock::{call, changing, least, reading, Batch};
 use crate::inputs::{commands, drawn, images, numbers, pairs, requests, Commanded};
 use crate::proved::{answer, answer_in_c, decide_in_c, explained, Memory};
 use quandrilof::{calls, Refusal, Request, Row, IMAGE_MOST, INDEX_BYTES, ROWS_MOST};
 use second::command::{GivenProhibition, COMMAND_NAMES};
 use second::make::{foreign_index, Random};
-use second::words::{Group, ASSIGNMENTS, ASSOCIATIONS, KINDS, PROHIBITIONS, USERS};
+use second::words::{holds_table, Group, ASSIGNMENTS, ASSOCIATIONS, KINDS, PROHIBITIONS, USERS};
 use second::{Answer, Command, Machine, Policy, Prohibition};
 use std::hint::black_box;
 
-/// Time per call in nanoseconds.
+/// Time per call in nanoseconds. The second program answers from its sets; `judging` is the time in which it tells of the lent words
+/// that they hold a table, 0 for load, which asks their length and no more.
 pub struct Line {
     pub call: String,
     pub case: String,
     pub proved: f64,
     pub second: f64,
+    pub judging: f64,
     pub c: Option<f64>,
 }
 
@@ -126,8 +128,8 @@ impl Subject {
                     second::decide(policy, process, operation, arguments) == Answer::Deny
                 })
             };
-            let (proved, second) = (clock::call(proved), clock::call(second));
-            lines.push(line("decide", &asked.case, asked.requests.len(), proved, second));
+            let times = least([call(proved), call(second), judging(words)]);
+            lines.push(line("decide", &asked.case, asked.requests.len(), times));
         }
         lines
     }
@@ -151,11 +153,10 @@ impl Subject {
                 })
             };
             let c = || each(&asked.requests, |request| decide_in_c(words, index, request));
-            let (proved, second) = (clock::call(proved), clock::call(second));
+            let [proved, second, judging, c] = least([call(proved), call(second), judging(words), call(c)]);
             let count = asked.requests.len();
-            let mut measured = line("decide-indexed", &asked.case, count, proved, second);
-            measured.c = Some(clock::call(c) / count as f64);
-            lines.push(measured);
+            let measured = line("decide-indexed", &asked.case, count, [proved, second, judging]);
+            lines.push(Line { c: Some(c / count as f64), ..measured });
         }
         lines
     }
@@ -169,15 +170,15 @@ impl Subject {
             for request in &asked.requests {
                 self.compare_explained(request, &mut rows);
             }
-            let proved =
-                clock::call(|| each(&asked.requests, |request| explained(words, request, &mut rows).1));
-            let second = clock::call(|| {
+            let proved = || each(&asked.requests, |request| explained(words, request, &mut rows).1);
+            let second = || {
                 each(&asked.requests, |request| {
                     let (process, operation, arguments) = numbers(request);
                     second::explain_into(policy, process, operation, arguments, &mut others).1
                 })
-            });
-            lines.push(line("explain", &asked.case, asked.requests.len(), proved, second));
+            };
+            let times = least([call(proved), call(second), judging(words)]);
+            lines.push(line("explain", &asked.case, asked.requests.len(), times));
         }
         lines
     }
@@ -190,9 +191,10 @@ impl Subject {
                 let told = calls::contains(words, *x, *y).map_err(Refusal::number);
                 assert_eq!(told, second::contains(policy, *x, *y), "{x} in {y}");
             }
-            let proved = clock::call(|| each(&pairs, |(x, y)| calls::contains(words, *x, *y).is_ok()));
-            let second = clock::call(|| each(&pairs, |(x, y)| second::contains(policy, *x, *y).is_ok()));
-            lines.push(line("contains", &case, pairs.len(), proved, second));
+            let proved = || each(&pairs, |(x, y)| calls::contains(words, *x, *y).is_ok());
+            let second = || each(&pairs, |(x, y)| second::contains(policy, *x, *y).is_ok());
+            let times = least([call(proved), call(second), judging(words)]);
+            lines.push(line("contains", &case, pairs.len(), times));
         }
         lines
     }
@@ -206,9 +208,10 @@ impl Subject {
             assert_eq!(told, loaded.as_ref().map(|_| ()).map_err(|number| *number), "{case}");
             assert_eq!(words, self.memory.words, "{case}");
             assert!(loaded.is_ok_and(|policy| policy == self.policy) == (case == "accepted"), "{case}");
-            let proved = clock::call(|| _ = black_box(calls::load(black_box(&mut words), black_box(&image))));
-            let second = clock::call(|| _ = black_box(second::load(black_box(&image))));
-            lines.push(line("load", case, 1, proved, second));
+            let proved = || _ = black_box(calls::load(black_box(&mut words), black_box(&image)));
+            let second = || _ = black_box(second::load(black_box(&image)));
+            let [proved, second] = least([call(proved), call(second)]);
+            lines.push(line("load", case, 1, [proved, second, 0.0]));
         }
         lines
     }
@@ -222,10 +225,9 @@ impl Subject {
             let told = calls::save(words, &mut out).map_err(Refusal::number);
             assert_eq!(told, second::save_into(policy, &mut other), "{case}");
             assert_eq!(out, other, "{case}");
-            let proved = clock::call(|| _ = black_box(calls::save(black_box(words), black_box(&mut out))));
-            let second =
-                clock::call(|| _ = black_box(second::save_into(black_box(policy), black_box(&mut other))));
-            lines.push(line("save", case, 1, proved, second));
+            let proved = || _ = black_box(calls::save(black_box(words), black_box(&mut out)));
+            let second = || _ = black_box(second::save_into(black_box(policy), black_box(&mut other)));
+            lines.push(line("save", case, 1, least([call(proved), call(second), judging(words)])));
         }
         lines
     }
@@ -236,11 +238,9 @@ impl Subject {
         calls::build_index(words, &mut built).expect("a table");
         second::build_index_into(policy, &mut other).expect("an index of its length");
         assert_eq!(built, other);
-        let proved =
-            clock::call(|| _ = black_box(calls::build_index(black_box(words), black_box(&mut built))));
-        let second =
-            clock::call(|| _ = black_box(second::build_index_into(black_box(policy), black_box(&mut other))));
-        vec![line("build-index", "done", 1, proved, second)]
+        let proved = || _ = black_box(calls::build_index(black_box(words), black_box(&mut built)));
+        let second = || _ = black_box(second::build_index_into(black_box(policy), black_box(&mut other)));
+        vec![line("build-index", "done", 1, least([call(proved), call(second), judging(words)]))]
     }
 
     fn is_index(&self) -> Vec<Line> {
@@ -251,9 +251,9 @@ impl Subject {
         for (case, index) in [("yes", index), ("no", &other)] {
             let told = calls::is_index(words, index).map_err(Refusal::number);
             assert_eq!(told, second::is_index(policy, index), "{case}");
-            let proved = clock::call(|| _ = black_box(calls::is_index(black_box(words), black_box(index))));
-            let second = clock::call(|| _ = black_box(second::is_index(black_box(policy), black_box(index))));
-            lines.push(line("is-index", case, 1, proved, second));
+            let proved = || _ = black_box(calls::is_index(black_box(words), black_box(index)));
+            let second = || _ = black_box(second::is_index(black_box(policy), black_box(index)));
+            lines.push(line("is-index", case, 1, least([call(proved), call(second), judging(words)])));
         }
         lines
     }
@@ -297,9 +297,17 @@ fn spoil(words: &mut [u32], random: &mut Random, request: &Request) {
     }
 }
 
-fn line(call: &str, case: &str, count: usize, proved: f64, second: f64) -> Line {
+/// A line: the times in which `count` calls are answered by the proved library and by the second program, and in which the latter
+/// judges the words once.
+fn line(call: &str, case: &str, count: usize, [proved, second, judging]: [f64; 3]) -> Line {
     let (proved, second) = (proved / count as f64, second / count as f64);
-    Line { call: call.to_string(), case: case.to_string(), proved, second, c: None }
+    Line { call: call.to_string(), case: case.to_string(), proved, second, judging, c: None }
+}
+
+/// The second program tells that the words hold a table.
+fn judging(words: &[u32]) -> Batch<'_> {
+    assert!(holds_table(words));
+    call(move || _ = black_box(holds_table(black_box(words))))
 }
 
 /// Asks all, one after the other.
@@ -322,11 +330,11 @@ fn commanded_line(commanded: &Commanded) -> Line {
     assert_eq!(told, expected, "{command:?}");
     assert!(memory == Memory::of(&machine.policy), "{command:?}");
     assert!(memory.index == machine.index, "{command:?}");
-    let call = name_of(command.number());
+    let name = name_of(command.number());
     if told.is_err() {
-        let proved = clock::call(|| _ = black_box(memory.run(black_box(command))));
-        let second = clock::call(|| _ = black_box(machine.run(black_box(command))));
-        return line(&call, case, 1, proved, second);
+        let proved = || _ = black_box(memory.run(black_box(command)));
+        let second = || _ = black_box(machine.run(black_box(command)));
+        return line(&name, case, 1, least([call(proved), call(second), judging(&start.words)]));
     }
     let (words, bytes) = (changed(&start.words, &memory.words), changed(&start.index, &memory.index));
     let put_back = |memory: &mut Memory| {
@@ -341,15 +349,15 @@ fn commanded_line(commanded: &Commanded) -> Line {
     assert!(memory == start, "{command:?}");
     undo(&mut machine.policy, before, command);
     assert_eq!(machine.policy, *before, "{command:?}");
-    let proved =
-        clock::changing(&mut memory, |memory| _ = black_box(memory.run(black_box(command))), put_back);
-    let second = clock::changing(
+    let proved = changing(&mut memory, |memory| _ = black_box(memory.run(black_box(command))), put_back);
+    let second = changing(
         &mut machine,
         |machine| _ = black_box(machine.run(black_box(command))),
         |machine| undo(&mut machine.policy, before, command),
     );
+    let [proved, second, judging, reading] = least([proved, second, judging(&start.words), reading()]);
     assert!(memory == start && machine.policy == *before, "{command:?}");
-    line(&call, case, 1, proved, second)
+    line(&name, case, 1, [proved - reading, second - reading, judging])
 }
 
 /// The ranges in which two lists differ.

@@ -6,7 +6,16 @@ use std::path::Path;
 use std::{fs, io};
 
 /// A table's name, its five counts, its lines.
-pub type Measured = (&'static str, [usize; 5], Vec<Line>);
+pub struct Measured {
+    pub table: &'static str,
+    pub counts: [usize; 5],
+    pub lines: Vec<Line>,
+}
+
+/// The second program's time where it, too, is lent words and judges them first.
+fn judged(line: &Line) -> f64 {
+    line.judging + line.second
+}
 
 /// Nanoseconds, with as many places as are of use.
 fn time(time: f64) -> String {
@@ -26,7 +35,13 @@ fn ratio(other: f64, proved: f64) -> String {
 /// The ratios of all tables, then the times of each.
 pub fn all(measured: &[Measured]) -> String {
     let mut text = String::new();
-    ratios(&mut text, measured).expect("a string takes all");
+    let lent = "**Lent words.** Both programs are lent the words and tell first whether they hold a table: the second \
+                  program's time by the proved call's.";
+    let kept = "**Kept sets.** The second program answers from sets that it keeps, and judges no memory: its time by \
+                the proved call's.";
+    ratios(&mut text, lent, measured, judged).expect("a string takes all");
+    text.push('\n');
+    ratios(&mut text, kept, measured, |line| line.second).expect("a string takes all");
     for one in measured {
         times(&mut text, one).expect("a string takes all");
     }
@@ -38,47 +53,58 @@ fn case_of(line: &Line) -> &str {
     line.case.trim_start_matches(|c: char| c.is_ascii_digit()).trim_start()
 }
 
-fn ratios(text: &mut String, measured: &[Measured]) -> std::fmt::Result {
-    writeln!(
-        text,
-        "Second program's time by the proved call's; below 1 the proved call is the slower one.\n"
-    )?;
-    let names: Vec<&str> = measured.iter().map(|(name, ..)| *name).collect();
+/// How the second program's time stands to the proved call's, call by call and table by table.
+fn ratios(
+    text: &mut String,
+    title: &str,
+    measured: &[Measured],
+    second: impl Fn(&Line) -> f64,
+) -> std::fmt::Result {
+    writeln!(text, "{title} Below 1 the proved call is the slower one.\n")?;
+    let names: Vec<&str> = measured.iter().map(|one| one.table).collect();
     writeln!(text, "| call | case | {} |", names.join(" | "))?;
     writeln!(text, "|---|---|{}", "---:|".repeat(names.len()))?;
     let mut rows: Vec<(&str, &str)> = Vec::new();
-    for line in measured.iter().flat_map(|(.., lines)| lines) {
+    for line in measured.iter().flat_map(|one| &one.lines) {
         let row = (line.call.as_str(), case_of(line));
         if !rows.contains(&row) {
             rows.push(row);
         }
     }
-    rows.sort_by_key(|(call, _)| measured[0].2.iter().position(|line| line.call == *call));
+    rows.sort_by_key(|(call, _)| measured[0].lines.iter().position(|line| line.call == *call));
+    let (mut cells, mut slower) = (0, 0);
     for (call, case) in &rows {
         write!(text, "| {call} | {case} |")?;
-        for (.., lines) in measured {
-            match lines.iter().find(|line| line.call == *call && case_of(line) == *case) {
-                Some(line) => write!(text, " {} |", ratio(line.second, line.proved))?,
+        for one in measured {
+            match one.lines.iter().find(|line| line.call == *call && case_of(line) == *case) {
+                Some(line) => {
+                    cells += 1;
+                    slower += usize::from(second(line) < line.proved);
+                    write!(text, " {} |", ratio(second(line), line.proved))?;
+                }
                 None => write!(text, " |")?,
             }
         }
         writeln!(text)?;
     }
-    Ok(())
+    writeln!(text, "\nBelow 1: {slower} of {cells}.")
 }
 
-fn times(text: &mut String, (name, counts, lines): &Measured) -> std::fmt::Result {
+fn times(text: &mut String, Measured { table, counts, lines }: &Measured) -> std::fmt::Result {
     let [elements, assignments, associations, prohibitions, processes] = counts;
     writeln!(
         text,
-        "\n**{name}**: {elements} elements, {assignments} assignments, {associations} associations, \
+        "\n**{table}**: {elements} elements, {assignments} assignments, {associations} associations, \
          {prohibitions} prohibitions, {processes} processes; nanoseconds a call.\n"
     )?;
-    writeln!(text, "| call | case | proved | second | second / proved | C | C / proved |")?;
-    writeln!(text, "|---|---|---:|---:|---:|---:|---:|")?;
-    for Line { call, case, proved, second, c } in lines {
-        let (own, by) = (time(*proved), ratio(*second, *proved));
-        write!(text, "| {call} | {case} | {own} | {} | {by} |", time(*second))?;
+    writeln!(text, "| call | case | proved | second, lent words | by proved | second, kept sets | by proved | C | by proved |")?;
+    writeln!(text, "|---|---|---:|---:|---:|---:|---:|---:|---:|")?;
+    for line in lines {
+        let Line { call, case, proved, second, c, .. } = line;
+        write!(text, "| {call} | {case} | {} |", time(*proved))?;
+        for other in [judged(line), *second] {
+            write!(text, " {} | {} |", time(other), ratio(other, *proved))?;
+        }
         match c {
             Some(c) => writeln!(text, " {} | {} |", time(*c), ratio(*c, *proved))?,
             None => writeln!(text, " | |")?,

@@ -210,6 +210,7 @@ pub fn histories_script() -> Vec<u8> {
     cycles(&mut script, &mut random);
     out_of_range_first(&mut script);
     no_rights(&mut script);
+    places_not_taken(&mut script);
     absent_subject(&mut script);
     unsound(&mut script, &mut random);
     random_histories(&mut script, &mut random);
@@ -689,6 +690,18 @@ fn no_rights(script: &mut Script) {
     script.word(ASSOCIATIONS.start + 1, 0);
     script.run_all([permit([1, 5, 1, 0], &[7], &[8]), permit([1, 5, 1, 1], &[7], &[8])]);
     script.run_all([dissociate(3, 7, 0), dissociate(3, 7, 3), prohibit([1, 5, 1, 0], &[7], &[8])]);
+    script.list();
+}
+
+/// A prohibition with other words than 0 in the places that no id takes: it is there, is not put in again, and can be deleted.
+fn places_not_taken(script: &mut Script) {
+    furnish(script);
+    script.word(PROHIBITIONS.start + 5, 7);
+    script.word(PROHIBITIONS.start + 10, u32::MAX);
+    script.run_all([prohibit([1, 5, 1, 1], &[7], &[8]), permit([1, 5, 1, 1], &[7], &[8, 10])]);
+    script.list();
+    script.run_all([permit([1, 5, 1, 1], &[7], &[8]), permit([1, 5, 1, 1], &[7], &[8])]);
+    script.run_all([prohibit([1, 5, 1, 1], &[7], &[8])]);
     script.list();
 }
 

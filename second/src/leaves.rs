@@ -364,7 +364,13 @@ fn spoilt(script: &mut Script) {
     script.step(b'W', 7_967, 0, 4 * 8 + 4);
     script.step(b'W', 7_975, 0, 1);
     script.two(b'C', 1, 3);
-    let ways: [&[(u32, u32)]; 13] = [
+    // a word in a place of a prohibition that no id takes is no fault
+    table(script);
+    for (word, value) in [(3, 1), (5_779, 7), (5_778, 8), (5_780, 7), (5_786, u32::MAX)] {
+        script.step(b'W', word, 0, value);
+        script.two(b'C', 1, 2);
+    }
+    let ways: [&[(u32, u32)]; 11] = [
         &[(0, 0)],
         &[(0, u32::MAX)],
         &[(1, 2_001)],
@@ -376,11 +382,9 @@ fn spoilt(script: &mut Script) {
         &[(777, 262_144)],
         // one assignment more than there are: its word is 0
         &[(1, 3)],
-        // a prohibition with five inclusions, with five exclusions, with an id in a place that none takes
+        // a prohibition with five inclusions, with five exclusions
         &[(3, 1), (5_778, 40)],
         &[(3, 1), (5_778, 5)],
-        &[(3, 1), (5_779, 7)],
-        &[(3, 1), (5_778, 8), (5_780, 7)],
     ];
     for way in ways {
         table(script);

@@ -823,8 +823,15 @@ fn out_of_order(script: &mut Script) {
     }
 }
 
-/// Memory that is a table no longer.
+/// Memory that is a table no longer, or still one.
 fn spoilt(script: &mut Script) {
+    script.house();
+    // places of a prohibition that no id takes may hold anything
+    script.word(PROHIBITIONS.counter, 1);
+    for place in 3..11 {
+        script.word(PROHIBITIONS.start + place, 7);
+        script.ask_why(1, 1, [10, 0, 0]);
+    }
     script.house();
     let last = PROHIBITIONS.start + PROHIBITIONS.width * 199;
     // as many as there can be: a thousand associations and two hundred prohibitions of zeros
@@ -842,7 +849,6 @@ fn spoilt(script: &mut Script) {
         (ASSIGNMENTS.start, 262_143),
         (PROHIBITIONS.start + 2, 40),
         (PROHIBITIONS.start + 2, 5),
-        (PROHIBITIONS.start + 3, 7),
     ] {
         script.house();
         script.word(PROHIBITIONS.counter, 1);

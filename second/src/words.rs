@@ -134,15 +134,12 @@ pub fn holds_table(words: &[u32]) -> bool {
         && [ASSIGNMENTS, ASSOCIATIONS, PROHIBITIONS].iter().all(|group| group.fits(words))
         && ASSIGNMENTS.records(words).is_sorted_by(|one, next| one < next)
         && ASSIGNMENTS.records(words).all(|record| record[0] < IDS * IDS)
-        && PROHIBITIONS.records(words).all(is_tidy)
+        && PROHIBITIONS.records(words).all(has_short_lists)
 }
 
-/// At most four ids in each list of a prohibition, and zero in the places that none takes.
-fn is_tidy(record: &[u32]) -> bool {
-    let (inclusions, exclusions) = (record[2] / 8, record[2] % 8);
-    inclusions <= 4
-        && exclusions <= 4
-        && record[3..].iter().skip((inclusions + exclusions) as usize).all(|word| *word == 0)
+/// At most four ids in each list of a prohibition.
+fn has_short_lists(record: &[u32]) -> bool {
+    record[2] / 8 <= 4 && record[2] % 8 <= 4
 }
 
 /// The table that words hold.

@@ -176,9 +176,10 @@ module _ (p : Policy) where
             (or-fails (not (isThere p (a .attribute)) || not (isThere p (a .target))) (not (hasAssociation p a)) (none-line n 4) .1);
       }
 
-  -- Create prohibition: it goes into a record's words, and there is room for it.
+  -- Create prohibition: it goes into a record's words, is not there, and there is room for it.
   pub record NewProhibition (b : Prohibition) : Type 0 where
     pub storable : Storable b
+    pub new : hasProhibition p b ≡ false
     pub room : length (p .prohibitions) < 200
 
   -- so it is where no line holds
@@ -186,6 +187,7 @@ module _ (p : Policy) where
   unfolding commandLines
   new-prohibition {b} n = record {
     storable = storable b (none-line n 2) (none-line n 6);
+    new = none-line n 3;
     room = leb-false 200 (length (p .prohibitions)) (none-line n 10);
   }
 

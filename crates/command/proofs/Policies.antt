@@ -100,7 +100,7 @@ module _ {mem : List ℕ} (t : Table mem) where
   holds-after (create-prohibition b) n =
       let e = new-prohibition (policyOf mem) n in
       let few : word mem 3 < 200 = omega (arith, prohibitions-long mem, e .room) in
-      record { table = prohibition-put-table t (e .storable) few; policy = prohibition-put t (e .storable) few }
+      record { table = prohibition-put-table t (e .storable) few; policy = prohibition-put t (e .storable) few (e .new) }
   holds-after (delete-prohibition b) n =
       let e = old-prohibition (policyOf mem) n in
       record { table = prohibition-less-table t (e .storable); policy = prohibition-less t (e .storable) }

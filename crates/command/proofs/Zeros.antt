@@ -9,7 +9,7 @@ use native.Mathlib.Omega.{arith}
 use lib.Dec.{eqb}
 use lib.ListN.{length, getD, set}
 use lib.Seq.{getD-set-other}
-use Rattle.model.specs.Lists.{same, put, lessFirst}
+use Rattle.model.specs.Lists.{put}
 use Rattle.model.specs.Policy.{Association, Prohibition}
 use Rattle.model.specs.Refusal.{None, proper}
 use Rattle.model.specs.Command.{Command, create-class, create-element, assign, deassign, delete-element, create-association, delete-association, create-prohibition, delete-prohibition, start-process, end-process, commandLines}
@@ -18,13 +18,13 @@ use Rattle.model.proofs.Groups.{those-length}
 use Rattle.table.specs.Layout.{word}
 use Rattle.table.specs.View.{policyOf}
 use Rattle.table.specs.Facts.{Table}
-use Rattle.group.specs.Group.{group, regroup, Wide, Clear}
+use Rattle.group.specs.Group.{group, regroup, begins, Wide, Clear}
 use Rattle.group.proofs.Wide.{wide-put, wide-less}
 use Rattle.group.proofs.Kept.{length-group, wide-group, put-few, less-few}
 use Rattle.group.proofs.Regrouped.{zero-beyond}
 use Rattle.group.proofs.Others.{Apart, other-clear}
 use Rattle.store.specs.Words.{assignmentRecord, withKind, withUser, withAssignment, withoutAssignment, withoutAssignmentsOf, associationRecord, withAssociation, withoutAssociation}
-use Rattle.store.specs.ProhibitionWords.{Storable, prohibitionRecord, withProhibition, withoutProhibition}
+use Rattle.store.specs.ProhibitionWords.{Storable, prohibitionFront, prohibitionRecord, withProhibition, withoutProhibition}
 use Rattle.store.proofs.Assigned.{assignments-fit}
 use Rattle.store.proofs.Associated.{associations-fit}
 use Rattle.store.proofs.Recorded.{storable-narrow, length-record}
@@ -112,7 +112,7 @@ module _ {mem : List ℕ} (t : Table mem) (z : Zeros mem) where
   unfolding withoutAssignment
   assignment-out x y =
       let f = assignments-fit t in
-      assignments-zeros t z (wide-less (wide-group f) (same (assignmentRecord x y))) (less-few (same (assignmentRecord x y)) f)
+      assignments-zeros t z (wide-less (wide-group f) (begins (assignmentRecord x y))) (less-few (begins (assignmentRecord x y)) f)
 
   -- all of an element's less
   assignments-out : (x : ℕ) → Zeros (withoutAssignmentsOf x mem)
@@ -135,7 +135,7 @@ module _ {mem : List ℕ} (t : Table mem) (z : Zeros mem) where
   unfolding withoutAssociation
   association-out a =
       let f = associations-fit t in
-      associations-zeros t z (wide-less (wide-group f) (same (associationRecord a))) (less-few (same (associationRecord a)) f)
+      associations-zeros t z (wide-less (wide-group f) (begins (associationRecord a))) (less-few (begins (associationRecord a)) f)
 
   -- one prohibition more, or less
   module _ {b : Prohibition} (s : Storable b) where
@@ -152,9 +152,7 @@ module _ {mem : List ℕ} (t : Table mem) (z : Zeros mem) where
     unfolding withoutProhibition
     prohibition-out =
         let f = prohibitions-fit t in
-        let e : withoutProhibition b mem ≡ regroup 5776 11 3 (lessFirst (same (prohibitionRecord b)) (group 5776 11 3 mem)) mem =
-        ap (λ (n : ℕ). regroup 5776 n 3 (lessFirst (same (prohibitionRecord b)) (group 5776 n 3 mem)) mem) (length-record (storable-narrow s)) in
-        rw e (prohibitions-zeros t z (wide-less (wide-group f) (same (prohibitionRecord b))) (less-few (same (prohibitionRecord b)) f))
+        prohibitions-zeros t z (wide-less (wide-group f) (begins (prohibitionFront b))) (less-few (begins (prohibitionFront b)) f)
 
 -- a kind or a user set
 kind-zeros : {mem : List ℕ} (x k : ℕ) → x ≤ 511 → Zeros mem → Zeros (withKind x k mem)

@@ -7,8 +7,9 @@ use Prim.Native.Nat.{ℕ, suc, _+_, _-_, _≤_, _<_}
 use native.Mathlib.Omega.{arith}
 use borrow.Author.Tests.{lt-ltb, le-ltb, eq-eqb, ne-eqb}
 use lib.ListN.{length, take, drop, getD, drop-of-length-le}
-use lib.Seq.{drop-cons}
+use lib.Seq.{drop-cons, take-all}
 use Rattle.model.specs.Lists.{before, same}
+use Rattle.group.specs.Group.{begins}
 
 -- the test of the whole record is the test of what stands from the i-th word on
 pub record Left (test : List ℕ → List ℕ → Bool) (mem : List ℕ) (at : ℕ) (rec : List ℕ) (i : ℕ) : Type 0 where
@@ -90,3 +91,10 @@ module _ {mem : List ℕ} {at : ℕ} {rec : List ℕ} {i : ℕ} (c : Left same m
   pub same-all : length rec ≤ i → true ≡ same rec (take (length rec) (drop at mem))
   unfolding same
   same-all h = sym (ended c h)
+
+-- words of a record's own length: the record begins with them exactly if it is the same
+pub begins-all : (front r : List ℕ) → length front ≡ length r → begins front r ≡ same front r
+unfolding begins
+begins-all front r e =
+    let h : length r ≤ length front = omega arith in
+    rw (take-all (length front) r h)

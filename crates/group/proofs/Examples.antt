@@ -3,8 +3,8 @@
 use mathlib.Core.Path.{_≡_, refl}
 use mathlib.Core.List.{List, [], _∷_}
 use Prim.Native.Nat.{ℕ}
-use Rattle.model.specs.Lists.{before, same, put, lessFirst, two}
-use Rattle.group.specs.Group.{records, flat, group, laid, regroup, firstOf}
+use Rattle.model.specs.Lists.{before, same, put, lessFirst, one, two}
+use Rattle.group.specs.Group.{records, flat, group, laid, regroup, firstOf, begins}
 
 -- two records, (4, 1) and (7, 2), and other words around them
 abbrev words : List ℕ
@@ -26,13 +26,22 @@ unfolding group records regroup laid flat put before
 put-equal = refl
 
 -- (4, 1) is taken out: the words that became free are 0
-pub taken-out-zero : regroup 3 2 1 (lessFirst (same (two 4 1)) (group 3 2 1 words)) words ≡ 50 ∷ 1 ∷ 51 ∷ 7 ∷ 2 ∷ 0 ∷ 0 ∷ 0 ∷ 0 ∷ 52 ∷ []
-unfolding group records regroup laid flat lessFirst same
+pub taken-out-zero : regroup 3 2 1 (lessFirst (begins (two 4 1)) (group 3 2 1 words)) words ≡ 50 ∷ 1 ∷ 51 ∷ 7 ∷ 2 ∷ 0 ∷ 0 ∷ 0 ∷ 0 ∷ 52 ∷ []
+unfolding group records regroup laid flat lessFirst begins same
 taken-out-zero = refl
 
+-- (7, 2) is found by its first word alone, 7, and taken out whole
+pub found-by-front : firstOf (begins (one 7)) (group 3 2 1 words) ≡ 1
+unfolding group records firstOf begins same
+found-by-front = refl
+
+pub taken-out-by-front : regroup 3 2 1 (lessFirst (begins (one 7)) (group 3 2 1 words)) words ≡ 50 ∷ 1 ∷ 51 ∷ 4 ∷ 1 ∷ 0 ∷ 0 ∷ 0 ∷ 0 ∷ 52 ∷ []
+unfolding group records regroup laid flat lessFirst begins same
+taken-out-by-front = refl
+
 -- (4, 2) is not there: nothing changes
-pub not-there-kept : regroup 3 2 1 (lessFirst (same (two 4 2)) (group 3 2 1 words)) words ≡ words
-unfolding group records regroup laid flat lessFirst same
+pub not-there-kept : regroup 3 2 1 (lessFirst (begins (two 4 2)) (group 3 2 1 words)) words ≡ words
+unfolding group records regroup laid flat lessFirst begins same
 not-there-kept = refl
 
 -- the place of (7, 1) is behind one record, that of (8, 0) behind all

@@ -44,9 +44,13 @@ removedAt base width counter at k words =
 abbrev pub withRecord : (base counter : ℕ) → (rec words : List ℕ) → List ℕ
 withRecord base counter rec words = regroup base (length rec) counter (put (λ r. r) rec (group base (length rec) counter words)) words
 
--- the words with that group less the first record that is the one given
-abbrev pub withoutRecord : (base counter : ℕ) → (rec words : List ℕ) → List ℕ
-withoutRecord base counter rec words = regroup base (length rec) counter (lessFirst (same rec) (group base (length rec) counter words)) words
+-- the record begins with those words
+unfoldable pub begins : (front rec : List ℕ) → Bool
+begins front rec = same front (take (length front) rec)
+
+-- the words with that group less the first record that begins with the words given
+abbrev pub withoutRecord : (base width counter : ℕ) → (front words : List ℕ) → List ℕ
+withoutRecord base width counter front words = regroup base width counter (lessFirst (begins front) (group base width counter words)) words
 
 -- how many stand before the first that passes the test: all of them where none does
 unfoldable pub firstOf : {A : Type 0} → (A → Bool) → List A → ℕ

@@ -3,7 +3,7 @@ ghost use mathlib.Core.Path.{_≡_};
 ghost use Prim.Native.Nat.{_+_, _*_, _≤_, _<_};
 ghost use lib.ListN.{length, take, drop, getD, replicate};
 ghost use Rattle.model.specs.Lists.{before, same};
-ghost use Rattle.group.specs.Group.{records, laid, firstOf, insertedAt, removedAt, withRecord, withoutRecord, Fits};
+ghost use Rattle.group.specs.Group.{records, laid, firstOf, begins, insertedAt, removedAt, withRecord, withoutRecord, Fits};
 
 // The record is before the one that starts at word `at`.
 fn is_before(mem: &[u32], at: usize, rec: &[u32]) -> bool
@@ -55,18 +55,19 @@ pub fn place(mem: &[u32], base: usize, n: usize, rec: &[u32]) -> usize
     n
 }
 
-// How many of the n records from `base` on stand before the first that is the record.
-pub fn find(mem: &[u32], base: usize, n: usize, rec: &[u32]) -> usize
-    requires { ⌜ base + length (now rec) * n ≤ length (now mem) ⌝ }
-    ensures { λ r. ⌜ (r ≡ firstOf (same (now (rec .entry))) (records (length (now (rec .entry))) n (drop base (now (mem .entry))))) × (r ≤ n) ⌝ }
+// How many of the n records of `width` words from `base` on stand before the first that begins with the words given.
+pub fn find(mem: &[u32], base: usize, width: usize, n: usize, front: &[u32]) -> usize
+    requires { ⌜ base + width * n ≤ length (now mem) ⌝ }
+    requires { ⌜ length (now front) ≤ width ⌝ }
+    ensures { λ r. ⌜ (r ≡ firstOf (begins (now (front .entry))) (records width n (drop base (now (mem .entry))))) × (r ≤ n) ⌝ }
 {
     let mut i = 0;
     let mut at = base;
     while i < n {
-        if is_same(mem, at, rec) {
+        if is_same(mem, at, front) {
             return i;
         }
-        at += rec.len();
+        at += width;
         i += 1;
     }
     n
@@ -158,15 +159,16 @@ pub fn add(mem: &mut [u32], base: usize, counter: usize, rec: &[u32])
     insert(mem, base, counter, at, rec);
 }
 
-// Takes out the first record that is the one given, where one is.
-pub fn take_out(mem: &mut [u32], base: usize, counter: usize, rec: &[u32])
-    requires { ⌜ Fits base (length (now rec)) counter (getD (now mem) counter 0) (now mem) ⌝ }
-    ensures { λ _. ⌜ now (mem .exit) ≡ withoutRecord base counter (now (rec .entry)) (now (mem .entry)) ⌝ }
+// Takes out the first record of `width` words that begins with those given, where one does.
+pub fn take_out(mem: &mut [u32], base: usize, width: usize, counter: usize, front: &[u32])
+    requires { ⌜ Fits base width counter (getD (now mem) counter 0) (now mem) ⌝ }
+    requires { ⌜ length (now front) ≤ width ⌝ }
+    ensures { λ _. ⌜ now (mem .exit) ≡ withoutRecord base width counter (now (front .entry)) (now (mem .entry)) ⌝ }
 {
     let n = mem[counter] as usize;
-    let at = find(mem, base, n, rec);
+    let at = find(mem, base, width, n, front);
     if n <= at {
         return;
     }
-    remove(mem, base, rec.len(), counter, at, 1);
+    remove(mem, base, width, counter, at, 1);
 }

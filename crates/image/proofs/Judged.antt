@@ -1,6 +1,6 @@
 -- An image read into words: which refusal number it gets.
 -- Assumes nothing.
-use mathlib.Core.Path.{_≡_, refl, sym, ap, _∙_}
+use mathlib.Core.Path.{_≡_, refl, sym, ap, subst, _∙_}
 use mathlib.Core.Bool.{Bool, true, false, not, _||_}
 use mathlib.Core.List.{List, [], _∷_}
 use Prim.Native.Nat.{ℕ, _≤_, _<_}
@@ -15,6 +15,7 @@ use Rattle.model.proofs.Truth.{or-right, not-so, fails-when, clash}
 use Rattle.model.proofs.Image.Counts.{each-rises}
 use Rattle.model.proofs.Refusals.{first-given, refusal-first}
 use Rattle.table.specs.View.{holdsTable, policyOf}
+use Rattle.table.proofs.Test.{table-of}
 use Rattle.measure.specs.Places.{Uncut}
 use Rattle.measure.specs.Sizes.{misfits, sizeLines}
 use Rattle.measure.proofs.Accepted as accepted
@@ -24,7 +25,8 @@ use Rattle.unpack.specs.Words.{tableOf}
 use Rattle.unpack.proofs.Narrow.{Narrow}
 use Rattle.unpack.proofs.Stowed.{policy-stowed, table-stowed}
 use Rattle.unpack.proofs.StowedRead.{read-narrow}
-use Rattle.image.specs.Answers.{tableRefusal, Read}
+use Rattle.image.specs.Answers.{tableRefusal, Read, Ended}
+use Rattle.image.proofs.Copying.{table-ended}
 
 -- 13 and 14, of a policy
 abbrev policyLines : Policy → List Line
@@ -52,7 +54,11 @@ uncut s e h = accepted.uncut s (nothing e h)
 -- 11 or 12 is the image's number
 pub sizes-tell : (s words : List ℕ) {n : ℕ} → n ≡ refusal (sizeLines s) → 0 < n → Read s n words
 sizes-tell s words {n} e h =
-    record { number-is = sym (first-given (sizes-first s (refusal-first (sizeLines s) (λ z. omega arith) (sym e)))); words-are = λ z. absurd (omega arith) }
+    record {
+      number-is = sym (first-given (sizes-first s (refusal-first (sizeLines s) (λ z. omega arith) (sym e))));
+      words-are = λ z. absurd (omega arith);
+      words-end = λ z. absurd (omega arith);
+    }
 
 -- 13 is the first of a policy that breaks a rule
 pub breaks : (p : Policy) → breaksRule p ≡ true → refusal (policyLines p) ≡ 13
@@ -65,6 +71,7 @@ unstowable-tells s words {t = t} e h q f =
     record {
       number-is = sym (behind-sizes s (nothing e h) ∙ breaks (policyIn s) (not-stowable (policyIn s) (sym q ∙ not-true t f)));
       words-are = λ z. absurd (omega arith);
+      words-end = λ z. absurd (omega arith);
     }
 
 -- those that can be
@@ -85,6 +92,15 @@ words-tell p n t = go (rising assignmentFields (p .assignments)) refl
     go true e = rw (table-stowed p n t, e, policy-stowed p n t)
     go false e = rw (table-stowed p n t, e) (sym (breaks p (falls p e)))
 
+-- words that are refused by nothing hold a table
+zero-holds : (words : List ℕ) → tableRefusal words ≡ 0 → holdsTable words ≡ true
+unfolding tableRefusal
+zero-holds words e = go (holdsTable words) refl
+  where
+    go : (b : Bool) → holdsTable words ≡ b → holdsTable words ≡ true
+    go true h = h
+    go false h = let z : _≡_ {A = ℕ} 13 0 = rw h at e in absurd (omega arith)
+
 -- so what they tell is the image's number
 pub words-judge : (s words : List ℕ) {n r : ℕ} {t : Bool} → n ≡ refusal (sizeLines s) → n ≤ 0 → t ≡ stowable (policyIn s) → not t ≡ false
     → words ≡ tableOf (policyIn s) → r ≡ tableRefusal words → Read s r words
@@ -92,6 +108,9 @@ words-judge s words {t = t} e h q f w k =
     record {
       number-is = k ∙ ap tableRefusal w ∙ words-tell (policyIn s) (read-narrow s) (stowable-known s q f) ∙ sym (behind-sizes s (nothing e h));
       words-are = λ z. w;
+      words-end = λ z.
+          subst Ended (sym w)
+          (table-ended s (uncut s e h) (stowable-known s q f) (table-of (tableOf (policyIn s)) (zero-holds (tableOf (policyIn s)) (sym (k ∙ ap tableRefusal w) ∙ z))));
     }
 
 -- 13 and 14 by words, return by return

@@ -1,3 +1,5 @@
+pub mod Ends
+pub mod Copying
 pub mod Judged
 pub mod Loading
 pub mod Saving

@@ -2,22 +2,21 @@
 -- Assumes nothing.
 use mathlib.Core.Path.{_≡_, refl, sym, ap, _∙_}
 use mathlib.Core.Bool.{not}
-use mathlib.Core.List.{List, [], _++_, append-nil}
-use Prim.Native.Nat.{ℕ, _+_, _≤_, _<_}
+use mathlib.Core.List.{List}
+use Prim.Native.Nat.{ℕ, _≤_, _<_}
 use native.Mathlib.Omega.{arith}
 use borrow.Author.Tests.{eq-eqb, ne-eqb}
 use lib.Dec.{eqb}
-use lib.ListN.{length, drop, drop-of-length-le}
+use lib.ListN.{length}
 use Rattle.model.specs.Lists.{allOf}
 use Rattle.model.specs.Refusal.{next, past, refused, accepted, answer, refusal}
 use Rattle.model.specs.Image.{policyIn, imageLines, loadLines}
 use Rattle.model.specs.Calls.{kept}
 use Rattle.model.proofs.Refusals.{first-refused, none-accepted, refusal-none, refusal-first}
-use Rattle.group.specs.Group.{laid}
 use Rattle.table.specs.declared.Outcome.the-variants.{Done, Refused}
 use Rattle.table.specs.Answers.{told, left}
 use Rattle.unpack.specs.Words.{tableOf}
-use Rattle.image.specs.Answers.{loadTable, Read}
+use Rattle.image.specs.Answers.{loadTable, Read, Ended}
 
 -- another length
 pub other-length : (s words : List ℕ) → (length words ≡ 8192 → ⊥) → left (Refused 1) words ≡ loadTable s words
@@ -42,17 +41,13 @@ pub image-refused : (s words fresh : List ℕ) {n : ℕ} → length words ≡ 81
 unfolding loadTable told kept
 image-refused s words fresh e r h = rw (refused-as s words e (r .number-is) h)
 
--- words laid over as many are those words
-over-all : (fresh words : List ℕ) → length fresh ≡ length words → laid 0 fresh words ≡ fresh
-unfolding laid
-over-all fresh words e =
-    let d : drop (0 + length fresh) words ≡ [] = drop-of-length-le words {i = 0 + length fresh} (omega arith) in
-    ap (λ (r : List ℕ). fresh ++ r) d ∙ append-nil fresh
+-- an accepted image's words hold a table with zeros behind its end
+pub image-ended : (s fresh : List ℕ) {n : ℕ} → Read s n fresh → n ≤ 0 → Ended fresh
+image-ended s fresh r h = r .words-end (omega arith)
 
 -- the image is accepted
-pub image-stored : (s words words′ fresh : List ℕ) {n : ℕ} → length words ≡ 8192 → length fresh ≡ 8192 → Read s n fresh → n ≤ 0 → words′ ≡ laid 0 fresh words
-    → left Done words′ ≡ loadTable s words
+pub image-stored : (s words words′ fresh : List ℕ) {n : ℕ} → length words ≡ 8192 → Read s n fresh → n ≤ 0 → words′ ≡ fresh → left Done words′ ≡ loadTable s words
 unfolding loadTable told kept
-image-stored s words words′ fresh e f r h w =
-    let k : words′ ≡ tableOf (policyIn s) = w ∙ over-all fresh words (f ∙ sym e) ∙ r .words-are (omega arith) in
+image-stored s words words′ fresh e r h w =
+    let k : words′ ≡ tableOf (policyIn s) = w ∙ r .words-are (omega arith) in
     rw (accepted-as s words e (r .number-is) h, k)

@@ -3,14 +3,15 @@
 use mathlib.Core.Path.{_≡_}
 use mathlib.Core.Bool.{cond}
 use mathlib.Core.List.{List, [], _∷_}
-use Prim.Native.Nat.{ℕ}
-use lib.Dec.{eqb}
-use lib.ListN.{length}
+use Prim.Native.Nat.{ℕ, _-_}
+use lib.Dec.{eqb, ltb}
+use lib.ListN.{length, drop, replicate}
 use Rattle.model.specs.Refusal.{_when_, Answer, refused, accepted, answer, refusal}
 use Rattle.model.specs.Image.{policyIn, imageLines, loadLines, breaksRule, namesWrong}
 use Rattle.model.specs.Calls.{Saving, kept}
-use Rattle.table.specs.Layout.{wordCount}
+use Rattle.table.specs.Layout.{wordCount, associationCount, prohibitionCount, associationStart, prohibitionStart}
 use Rattle.table.specs.View.{holdsTable, policyOf}
+use Rattle.table.specs.Facts.{Table}
 use Rattle.table.specs.Answers.{Left}
 use Rattle.unpack.specs.Words.{tableOf}
 use Rattle.image.specs.declared.Saved.{Saved}
@@ -28,10 +29,21 @@ unfoldable pub tableRefusal : (words : List ℕ) → ℕ
 tableRefusal words =
     cond (holdsTable words) (refusal ((13 when breaksRule (policyOf words)) ∷ (14 when namesWrong (policyOf words)) ∷ [])) 13
 
--- an image was read: its refusal number, 0 where it is accepted, and then the words that it is
+-- where the words of a table end: behind its last prohibition, or, where there is none, behind its last association
+unfoldable pub tableEnd : (words : List ℕ) → ℕ
+tableEnd words =
+    cond (ltb 0 (prohibitionCount words)) (prohibitionStart (prohibitionCount words)) (associationStart (associationCount words))
+
+-- the words hold a table, and each word behind its end is 0
+pub record Ended (words : List ℕ) : Type 0 where
+  pub table : Table words
+  pub rest : drop (tableEnd words) words ≡ replicate (8192 - tableEnd words) 0
+
+-- an image was read: its refusal number, 0 where it is accepted, and then the words that it is, with zeros behind their end
 pub record Read (image : List ℕ) (number : ℕ) (words : List ℕ) : Type 0 where
   pub number-is : number ≡ refusal (imageLines image)
   pub words-are : number ≡ 0 → words ≡ tableOf (policyIn image)
+  pub words-end : number ≡ 0 → Ended words
 
 -- `Length`: saved, in so many bytes; `Refused`: the refusal number
 unfoldable pub saved : Saved → Answer ℕ

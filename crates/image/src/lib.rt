@@ -1,11 +1,12 @@
 // The policy as bytes: load makes a table of an image, save makes an image of a table.
 use table::Outcome;
 ghost use mathlib.Core.Path.{_≡_};
-ghost use lib.ListN.{replicate};
+ghost use lib.ListN.{length, replicate};
 ghost use Rattle.model.specs.Calls.{save as saving};
 ghost use Rattle.table.specs.View.{memory};
+ghost use Rattle.table.specs.Facts.{Table, AtMost};
 ghost use Rattle.table.specs.Answers.{left as leftWords};
-ghost use Rattle.image.specs.Answers.{loadTable, tableRefusal, Read, left};
+ghost use Rattle.image.specs.Answers.{loadTable, tableRefusal, tableEnd, Read, Ended, left};
 
 // What save answers: how many bytes the image takes, or a refusal number.
 pub enum Saved {
@@ -46,6 +47,29 @@ fn read(s: &[u8], mem: &mut [u32]) -> u32
     table_refusal(mem)
 }
 
+// Where the words of the table end: behind its last prohibition, or, where there is none, behind its last association.
+fn end_of(mem: &[u32]) -> usize
+    requires { ⌜ Table (now mem) ⌝ }
+    ensures { λ r. ⌜ AtMost (tableEnd (now (mem .entry))) 8192 r ⌝ }
+{
+    let n = table::prohibition_count(mem);
+    if 0 < n {
+        return table::PROHIBITIONS + 11 * n;
+    }
+    table::ASSOCIATIONS + 2 * table::association_count(mem)
+}
+
+// Makes the memory the table: its words up to where they end, and 0 in each word behind them.
+fn copy(mem: &mut [u32], fresh: &[u32])
+    requires { ⌜ length (now mem) ≡ 8192 ⌝ }
+    requires { ⌜ Ended (now fresh) ⌝ }
+    ensures { λ _. ⌜ now (mem .exit) ≡ now (fresh .entry) ⌝ }
+{
+    let end = end_of(fresh);
+    group::store(mem, 0, &fresh[0..end]);
+    group::clear(mem, end, table::WORDS - end);
+}
+
 // Makes the memory the table of the image's policy, or refuses: 1 for the memory's length, 11 to 14 for the image.
 pub fn load(mem: &mut [u32], s: &[u8]) -> Outcome
     ensures { λ r. ⌜ leftWords r (now (mem .exit)) ≡ loadTable (now (s .entry)) (now (mem .entry)) ⌝ }
@@ -58,7 +82,7 @@ pub fn load(mem: &mut [u32], s: &[u8]) -> Outcome
     if 0 < n {
         return Outcome::Refused(n);
     }
-    group::store(mem, 0, &fresh);
+    copy(mem, &fresh);
     Outcome::Done
 }
 

@@ -1,8 +1,8 @@
 pub mod Numbered
 pub mod Pairs
 pub mod Parts
+pub mod Free
 pub mod Placing
-pub mod Following
 pub mod Lifting
 pub mod Above
 pub mod Cycle

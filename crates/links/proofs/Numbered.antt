@@ -9,14 +9,18 @@ use native.Mathlib.Decide.{decLt}
 use borrow.Author.Tests.{not-true, not-false, lt-leb}
 use lib.Dec.{eqb, leb}
 use Rattle.model.specs.Lists.{In, anyOf, allOf, those, tabulate}
-use Rattle.model.specs.Policy.{isElementId, isKind, kindOf, isThere, userOf, isProcess}
+use Rattle.model.specs.Policy.{Policy, isElementId, isKind, kindOf, isThere, userOf, isProcess}
 use Rattle.model.specs.Sound.{processPairs, assignedOrClass, allAssigned}
-use Rattle.model.proofs.Truth.{clash, fails-when, or-fails, all-in, all-of, those-in, those-pass, in-those}
+use Rattle.model.proofs.Truth.{clash, passes, fails, tested, fails-when, or-fails, all-in, all-of, those-in, those-pass, in-those}
 use Rattle.table.specs.Layout.{kindWord, userWord}
 use Rattle.table.specs.View.{elementsOf, processesOf, policyOf}
 use Rattle.table.proofs.Tabled.{in-tabulate, tabulate-in}
 use Rattle.table.proofs.ById.{kind-is, kind-above, user-is, user-above, value-there}
-use Rattle.links.specs.Returning.{ownerFits, isPlaced}
+use Rattle.links.specs.Returning.{ownerFits, isFree}
+
+-- the element is not there, is a class, or has an assignment
+unfoldable pub isPlaced : Policy → (x : ℕ) → Bool
+isPlaced p x = isFree p x || anyOf (λ a. eqb (a .child) x) (p .assignments)
 
 -- each id from 1 on and below x passes the test
 pub record IdsPass (h : ℕ → Bool) (x : ℕ) : Type 0 where
@@ -73,7 +77,7 @@ module _ (mem : List ℕ) where
   -- what is asked of an element, by its word
   element-asked : (x : ℕ) → 1 ≤ x → x ≤ 511
       → isPlaced (policyOf mem) x ≡ (not (isKind (kindWord mem x)) || assignedOrClass (policyOf mem) (record { id = x; kind = kindWord mem x }))
-  unfolding isPlaced isThere isKind assignedOrClass
+  unfolding isPlaced isFree isThere isKind assignedOrClass
   element-asked x l h =
       let a : Bool = anyOf (λ a. eqb (a .child) x) (policyOf mem .assignments) in
       or-assoc (not (not (eqb (kindOf (policyOf mem) x) 0))) (eqb (kindOf (policyOf mem) x) 5) a
@@ -86,20 +90,22 @@ module _ (mem : List ℕ) where
   process-asked i l h =
       by-word (userWord mem i) (userOf (policyOf mem) i) 511 (λ u. eqb (kindOf (policyOf mem) u) 1) (user-is mem i l h) (user-above mem i)
 
-  -- an element that is neither a class nor assigned
-  pub element-fails : {x : ℕ} → IdsPass (isPlaced (policyOf mem)) x → x < 512 → {r : Bool} → r ≡ isPlaced (policyOf mem) x → not r ≡ true
-      → false ≡ allAssigned (policyOf mem)
+  -- where each element is a class or assigned, each id is placed
+  pub assigned-each : allAssigned (policyOf mem) ≡ true → (x : ℕ) → 1 ≤ x → x ≤ 511 → isPlaced (policyOf mem) x ≡ true
   unfolding allAssigned policyOf elementsOf
-  element-fails {x} p l {r} is e =
-      one-fails (λ e. isKind (e .kind)) (assignedOrClass (policyOf mem)) (λ j. record { id = j; kind = kindWord mem j }) 511
-      (isPlaced (policyOf mem)) element-asked x (p .some) (omega arith) (sym is ∙ not-true r e)
+  assigned-each e x a b = elim (tested (isPlaced (policyOf mem) x)) [
+    | passes h ↦ h
+    | fails h ↦ absurd (clash e (sym
+        (one-fails (λ e. isKind (e .kind)) (assignedOrClass (policyOf mem)) (λ j. record { id = j; kind = kindWord mem j }) 511
+        (isPlaced (policyOf mem)) element-asked x a b h)))
+  ]
 
-  -- each element is a class or assigned
-  pub elements-pass : {x : ℕ} → IdsPass (isPlaced (policyOf mem)) x → 512 ≤ x → true ≡ allAssigned (policyOf mem)
+  -- and the other way
+  pub elements-pass : ((x : ℕ) → 1 ≤ x → x < 512 → isPlaced (policyOf mem) x ≡ true) → allAssigned (policyOf mem) ≡ true
   unfolding allAssigned policyOf elementsOf
-  elements-pass p l =
-      each-pass (λ e. isKind (e .kind)) (assignedOrClass (policyOf mem)) (λ j. record { id = j; kind = kindWord mem j }) 511
-      (isPlaced (policyOf mem)) element-asked (λ k a b. p .passed k a (omega arith))
+  elements-pass p = sym
+      (each-pass (λ e. isKind (e .kind)) (assignedOrClass (policyOf mem)) (λ j. record { id = j; kind = kindWord mem j }) 511
+      (isPlaced (policyOf mem)) element-asked (λ x a b. p x a (omega arith)))
 
   -- a process that is of no user
   pub process-fails : {i : ℕ} → IdsPass (ownerFits (policyOf mem)) i → i < 256 → {r : Bool} → r ≡ ownerFits (policyOf mem) i → not r ≡ true

@@ -2,14 +2,14 @@
 // is assigned.
 ghost use mathlib.Core.Path.{_≡_};
 ghost use mathlib.Core.Bool.{true, not};
-ghost use Prim.Native.Nat.{_+_, _<_};
+ghost use Prim.Native.Nat.{_≤_, _<_};
 ghost use Rattle.model.specs.Lists.{allOf};
 ghost use Rattle.model.specs.Sound.{assignmentPairs, associationPairs, prohibitionPairs, processPairs, pairsFit, noCycle, allAssigned};
 ghost use Rattle.model.specs.Image.{namesWrong};
 ghost use Rattle.table.specs.Layout.{assignmentCount, associationCount, prohibitionCount};
 ghost use Rattle.table.specs.View.{policyOf, assignmentAt, associationAt, prohibitionAt};
-ghost use Rattle.table.specs.Facts.{Table, FirstOf};
-ghost use Rattle.links.specs.Returning.{ownerFits, isPlaced, returnsBy};
+ghost use Rattle.table.specs.Facts.{Table};
+ghost use Rattle.links.specs.Returning.{ownerFits, areFree, returnsBy};
 ghost use Rattle.links.specs.Ranks.{lifted, ranksOf, isAbove};
 
 // Whether the two of assignment i may be assigned.
@@ -240,58 +240,43 @@ fn has_cycle(mem: &[u32]) -> bool
     has_cycle_by_index(mem)
 }
 
-// The first assignment whose child is above x, looked for from the first whose child is x or above.
-fn next_of(mem: &[u32], x: u32, first: usize) -> usize
+// Whether each element from `from` on and below `to` is not there or a class: none of them asks for an assignment. A kind above a class is none. No
+// early exit: the words are looked at together.
+fn are_free(mem: &[u32], from: u32, to: u32) -> bool
     requires { ⌜ Table (now mem) ⌝ }
-    requires { ⌜ x < 512 ⌝ }
-    requires { ⌜ FirstOf (now mem) x first ⌝ }
-    ensures { λ r. ⌜ FirstOf (now (mem .entry)) (x + 1) r ⌝ }
+    requires { ⌜ 1 ≤ from ⌝ }
+    requires { ⌜ to ≤ 512 ⌝ }
+    ensures { λ r. ⌜ r ≡ areFree (policyOf (now (mem .entry))) from to ⌝ }
 {
-    let n = table::assignment_count(mem);
-    let mut i = first;
-    while i < n {
-        if x < table::child_at(mem, i) {
-            return i;
-        }
-        i += 1;
+    let mut free = true;
+    let mut x = from;
+    while x < to {
+        let k = mem[table::KINDS + x as usize];
+        free = free & ((k == 0) | (kinds::CLASS <= k));
+        x += 1;
     }
-    i
+    free
 }
 
-// Whether element x is not there, is a class, or is assigned. Its assignments stand from `first` on; `next` is the first behind them.
-fn is_placed(mem: &[u32], x: u32, first: usize, next: usize) -> bool
-    requires { ⌜ Table (now mem) ⌝ }
-    requires { ⌜ x < 512 ⌝ }
-    requires { ⌜ FirstOf (now mem) x first ⌝ }
-    requires { ⌜ FirstOf (now mem) (x + 1) next ⌝ }
-    ensures { λ r. ⌜ r ≡ isPlaced (policyOf (now (mem .entry))) x ⌝ }
-{
-    if first < next {
-        return true;
-    }
-    let kind = table::kind_of(mem, x);
-    if kind == 0 {
-        return true;
-    }
-    kind == kinds::CLASS
-}
-
-// Whether each element but a class is assigned: elements and assignments are gone through together.
+// Whether each element but a class is assigned: the children rise, so each id below x is a child or was looked at between two of them.
 fn are_all_assigned(mem: &[u32]) -> bool
     requires { ⌜ Table (now mem) ⌝ }
     ensures { λ r. ⌜ r ≡ allAssigned (policyOf (now (mem .entry))) ⌝ }
 {
-    let mut first = table::first_of(mem, 1);
+    let n = table::assignment_count(mem);
     let mut x = 1;
-    while x < 512 {
-        let next = next_of(mem, x, first);
-        if !is_placed(mem, x, first, next) {
-            return false;
+    let mut i = 0;
+    while i < n {
+        let c = table::child_at(mem, i);
+        if x < c {
+            if !are_free(mem, x, c) {
+                return false;
+            }
         }
-        first = next;
-        x += 1;
+        x = c + 1;
+        i += 1;
     }
-    true
+    are_free(mem, x, 512)
 }
 
 // Whether the table names an unknown element or process, has a wrong kind or pairing, a cycle, or an unassigned element.

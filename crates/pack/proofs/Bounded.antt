@@ -48,7 +48,7 @@ module _ {mem : List ℕ} (t : Table mem) where
     where
       few : (i : ℕ) → i < prohibitionCount mem → length (listed (prohibitionAt mem i)) ≤ 8
       few i h =
-          let y = t .tidy i h in
+          let y = t .short i h in
           omega (arith, length-append (prohibitionAt mem i .inclusion) (prohibitionAt mem i .exclusion), inclusions-long mem i, exclusions-long mem i, y .few-inclusions, y .few-exclusions)
 
   -- the bits

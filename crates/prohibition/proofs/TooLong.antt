@@ -24,7 +24,7 @@ module _ {mem : List ℕ} (t : Table mem) (b : Prohibition) where
       let f = any-found (λ c. same (prohibitionFields b) (prohibitionFields c)) (policyOf mem .prohibitions) e in
       let w = tabulate-in (prohibitionCount mem) (prohibitionAt mem) (f .there) in
       let q = same-equal (prohibitionFields b) (prohibitionFields (f .it)) (f .is) in
-      let y = t .tidy (w .at) (w .early) in
+      let y = t .short (w .at) (w .early) in
       let i : length (b .inclusion) ≡ length (prohibitionAt mem (w .at) .inclusion) =
       ap (λ (l : List ℕ). getD l 4 0) q ∙ ap (λ (c : Prohibition). length (c .inclusion)) (sym (w .is)) in
       let j : length (b .exclusion) ≡ length (prohibitionAt mem (w .at) .exclusion) =

@@ -10,12 +10,12 @@ use lib.Dec.{leb}
 use lib.ListN.{length, take, getD}
 use lib.Seq.{take-all}
 use Rattle.model.specs.Lists.{allOf, tabulate, before, rising}
-use Rattle.model.specs.Policy.{Element, Process, isElementId, isProcessId, isKind, assignmentFields, associationFields, prohibitionFields}
+use Rattle.model.specs.Policy.{Element, Process, isElementId, isProcessId, isKind, assignmentFields, associationFields}
 use Rattle.model.specs.Sound.{elementFits, processFits}
 use Rattle.model.proofs.Truth.{and-join, all-of, those-in, those-pass}
-use Rattle.table.specs.Layout.{kindWord, userWord, associationCount, prohibitionCount}
+use Rattle.table.specs.Layout.{kindWord, userWord, associationCount}
 use Rattle.table.specs.View.{elementsOf, processesOf, policyOf}
-use Rattle.table.specs.Facts.{Table, Tidy}
+use Rattle.table.specs.Facts.{Table}
 use Rattle.table.proofs.Tabled.{tabulate-in}
 use Rattle.group.specs.Group.{group}
 use Rattle.group.proofs.Kept.{wide-group}
@@ -23,8 +23,6 @@ use Rattle.store.proofs.Regroups.{one-word, two-words}
 use Rattle.store.proofs.Mapped.{map-rising, fields-packed}
 use Rattle.store.proofs.Assigned.{assignmentIn, assignments-group, assignments-fit, group-rises}
 use Rattle.store.proofs.Associated.{associationIn, associations-group, associations-fit}
-use Rattle.store.proofs.Recorded.{prohibitionIn, tidy-narrow, tidy-record, record-order}
-use Rattle.store.proofs.Prohibited.{prohibitions-group, prohibitions-fit, group-tidy}
 use Rattle.ranges.specs.Rising.{recordsRise}
 
 -- a word of two fields is in the order of its fields
@@ -58,19 +56,6 @@ associations-rise {mem} t =
     order r s p q =
         ap₂ before (take-all 2 r (omega arith) ∙ two-words r p) (take-all 2 s (omega arith) ∙ two-words s q)
         ∙ word-order (getD r 0 0) (getD s 0 0) (getD r 1 0 ∷ []) (getD s 1 0 ∷ [])
-
--- the prohibitions rise exactly if their words do
-pub prohibitions-rise : {mem : List ℕ} → Table mem → recordsRise mem 5776 11 11 (prohibitionCount mem) ≡ rising prohibitionFields (policyOf mem .prohibitions)
-unfolding policyOf recordsRise group
-prohibitions-rise {mem} t =
-    let w = wide-group (prohibitions-fit t) in
-    map-rising prohibitionIn (take 11) prohibitionFields (group 5776 11 3 mem) (λ r s i j. order r s (w .each r i) (w .each s j) (group-tidy t r i) (group-tidy t s j))
-    ∙ ap (rising prohibitionFields) (sym (prohibitions-group t))
-  where
-    order : (r s : List ℕ) → length r ≡ 11 → length s ≡ 11 → Tidy r 0 → Tidy s 0
-        → before (take 11 r) (take 11 s) ≡ before (prohibitionFields (prohibitionIn r)) (prohibitionFields (prohibitionIn s))
-    order r s p q y z =
-        ap₂ before (take-all 11 r (omega arith) ∙ tidy-record r p y) (take-all 11 s (omega arith)) ∙ record-order (tidy-narrow y) s q z
 
 -- The elements and the processes of any words, which stand by their ids.
 module _ (mem : List ℕ) where

@@ -15,7 +15,7 @@ use Rattle.table.specs.Facts.{Table}
 use Rattle.table.proofs.ById.{elements-rise, processes-rise}
 use Rattle.table.proofs.Counted.{assignments-long, associations-long, prohibitions-long}
 use Rattle.ranges.specs.Rising.{recordsRise}
-use Rattle.ranges.proofs.ByFields.{assignments-rise, associations-rise, prohibitions-rise, elements-fit, processes-fit}
+use Rattle.ranges.proofs.ByFields.{assignments-rise, associations-rise, elements-fit, processes-fit}
 
 -- five tests, one of which fails
 one-fails : (a b c d e : Bool) → (not (a && b && c && true) || not (d && e && true)) ≡ (not a || not b || not c || not d || not e)
@@ -44,10 +44,10 @@ module _ {mem : List ℕ} (t : Table mem) where
   rule-by-parts : breaksRule (policyOf mem)
       ≡ (not (allOf assignmentFits (policyOf mem .assignments)) || not (allOf associationFits (policyOf mem .associations))
       || not (allOf prohibitionFits (policyOf mem .prohibitions)) || not (recordsRise mem 2776 2 2 (associationCount mem))
-      || not (recordsRise mem 5776 11 11 (prohibitionCount mem)))
+      || not (rising prohibitionFields (policyOf mem .prohibitions)))
   unfolding breaksRule fieldsFit groupsRise
   rule-by-parts =
-      rw (limits-kept, elements-fit mem, processes-fit mem, elements-rise mem, assignments-rise t, processes-rise mem, associations-rise t, prohibitions-rise t)
+      rw (limits-kept, elements-fit mem, processes-fit mem, elements-rise mem, assignments-rise t, processes-rise mem, associations-rise t)
       (one-fails (allOf assignmentFits (policyOf mem .assignments)) (allOf associationFits (policyOf mem .associations)) (allOf prohibitionFits (policyOf mem .prohibitions))
       (rising associationFields (policyOf mem .associations)) (rising prohibitionFields (policyOf mem .prohibitions)))
 
@@ -74,7 +74,7 @@ module _ {mem : List ℕ} (t : Table mem) where
               sym (rule-by-parts ∙ rw (← assignments, ha, ← associations, hb, ← prohibitions, hc, ← o, h) refl)
 
           -- they do: the order of the prohibitions decides
-          pub order-decides : not d ≡ false → {m : ℕ} → m ≡ prohibitionCount mem → {e : Bool} → e ≡ recordsRise mem 5776 11 11 m → not e ≡ breaksRule (policyOf mem)
-          order-decides hd few last =
+          pub order-decides : not d ≡ false → {e : Bool} → e ≡ rising prohibitionFields (policyOf mem .prohibitions) → not e ≡ breaksRule (policyOf mem)
+          order-decides hd last =
               let o : d ≡ recordsRise mem 2776 2 2 (associationCount mem) = rw count at order in
-              sym (rule-by-parts ∙ rw (← assignments, ha, ← associations, hb, ← prohibitions, hc, ← o, hd, ← few, ← last) refl)
+              sym (rule-by-parts ∙ rw (← assignments, ha, ← associations, hb, ← prohibitions, hc, ← o, hd, ← last) refl)

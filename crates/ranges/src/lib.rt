@@ -5,23 +5,20 @@ ghost use mathlib.Core.Path.{_≡_};
 ghost use mathlib.Core.Bool.{_&&_};
 ghost use Prim.Native.Nat.{_+_, _*_, _≤_, _<_};
 ghost use lib.ListN.{length};
-ghost use Rattle.model.specs.Lists.{allOf};
-ghost use Rattle.model.specs.Policy.{isRightSet};
+ghost use Rattle.model.specs.Lists.{allOf, rising};
+ghost use Rattle.model.specs.Policy.{isRightSet, prohibitionFields};
 ghost use Rattle.model.specs.Sound.{listsFit, assignmentFits, associationFits, prohibitionFits};
 ghost use Rattle.model.specs.Command.{badProhibition};
 ghost use Rattle.model.specs.Image.{breaksRule};
-ghost use Rattle.table.specs.Layout.{associationCount, prohibitionCount};
-ghost use Rattle.table.specs.View.{policyOf, associationAt, prohibitionAt};
-ghost use Rattle.table.specs.Facts.{Table};
+ghost use Rattle.table.specs.Layout.{associationCount, prohibitionCount, prohibitionStart};
+ghost use Rattle.table.specs.View.{inclusionCount, exclusionCount, policyOf, associationAt, prohibitionAt};
+ghost use Rattle.table.specs.Facts.{Table, AtMost};
 ghost use Rattle.ranges.specs.Rising.{beforeNext, recordsRise};
 
 // How many words an association and a prohibition take.
 const ASSOCIATION: usize = 2;
 
 const PROHIBITION: usize = 11;
-
-// Prohibitions are ordered by all their words: the counts and the ids that they list among them.
-const PROHIBITION_KEY: usize = 11;
 
 // Whether the record at a place is before the one a stride behind it, by the first `key` words of each.
 fn is_before_next(mem: &[u32], at: usize, stride: usize, key: usize) -> bool
@@ -46,6 +43,32 @@ fn are_rising(mem: &[u32], base: usize, stride: usize, key: usize, n: usize) -> 
             return false;
         }
         at += stride;
+        i += 1;
+    }
+    true
+}
+
+// How many words of prohibition i count: the first three and the ids that it lists.
+fn prohibition_key(mem: &[u32], i: usize) -> usize
+    requires { ⌜ Table (now mem) ⌝ }
+    requires { ⌜ i < prohibitionCount (now mem) ⌝ }
+    ensures { λ r. ⌜ AtMost (3 + (inclusionCount (now (mem .entry)) (prohibitionStart i) + exclusionCount (now (mem .entry)) (prohibitionStart i))) 11 r ⌝ }
+{
+    3 + table::inclusion_count_at(mem, i) + table::exclusion_count_at(mem, i)
+}
+
+// Whether the prohibitions strictly rise: each is before the next by those of its words that count. Whatever stands behind them decides nothing.
+fn are_prohibitions_rising(mem: &[u32]) -> bool
+    requires { ⌜ Table (now mem) ⌝ }
+    ensures { λ r. ⌜ r ≡ rising prohibitionFields (policyOf (now (mem .entry)) .prohibitions) ⌝ }
+{
+    let n = table::prohibition_count(mem);
+    let mut i = 1;
+    while i < n {
+        let at = PROHIBITIONS + PROHIBITION * (i - 1);
+        if !is_before_next(mem, at, PROHIBITION, prohibition_key(mem, i - 1)) {
+            return false;
+        }
         i += 1;
     }
     true
@@ -181,11 +204,5 @@ pub fn breaks_rule(mem: &[u32]) -> bool
     ) {
         return true;
     }
-    !are_rising(
-        mem,
-        PROHIBITIONS,
-        PROHIBITION,
-        PROHIBITION_KEY,
-        table::prohibition_count(mem),
-    )
+    !are_prohibitions_rising(mem)
 }

@@ -18,13 +18,14 @@ use Rattle.model.proofs.Groups.{put-in, rising-put, rising-less, rising-those, 
 use Rattle.table.specs.Layout.{word, assignmentWord}
 use Rattle.table.specs.View.{assignmentAt, assignmentsOf, policyOf}
 use Rattle.table.specs.Facts.{Table}
-use Rattle.group.specs.Group.{group, regroup, Fits, Wide, Clear}
+use Rattle.group.specs.Group.{group, regroup, begins, Fits, Wide, Clear}
+use Rattle.group.proofs.Compare.{begins-all}
 use Rattle.group.proofs.Records.{records-at, record-at}
 use Rattle.group.proofs.Regrouped.{count-regrouped, group-regrouped, zero-beyond}
 use Rattle.group.proofs.Wide.{wide-put, wide-less}
 use Rattle.group.proofs.Kept.{length-group, wide-group, put-few, less-few}
 use Rattle.store.specs.Words.{assignmentRecord, withAssignment, withoutAssignment, withoutAssignmentsOf}
-use Rattle.store.proofs.Frames.{Else, head-stays, elements-stay, processes-stay, associations-stay, prohibitions-stay, tidy-stays}
+use Rattle.store.proofs.Frames.{Else, head-stays, elements-stay, processes-stay, associations-stay, prohibitions-stay, short-stays}
 use Rattle.group.proofs.Records.{tabulate-alike}
 use Rattle.store.proofs.Regroups.{regroup-leaves, in-getD, in-at, rising-before, rising-getD, one-word}
 use Rattle.store.proofs.Mapped.{map-tabulate, map-put, map-less, map-those, fields-packed, same-packed}
@@ -134,7 +135,7 @@ module _ {mem : List ℕ} (t : Table mem) {g : List (List ℕ)} (w : Wide 1 g) (
       few-prohibitions = omega (arith, header 3 (omega arith) (λ e. omega arith), t .few-prohibitions);
       rising = λ i j h l. pairs i j h (omega (arith, count-after));
       small = λ i h. let l : i < length g = omega (arith, count-after) in omega (arith, word-after i l, small (getD g i []) (in-getD g i [] l));
-      tidy = tidy-stays t leaves (omega arith) (omega arith) (λ e. omega arith) (inr (omega arith));
+      short = short-stays t leaves (omega arith) (omega arith) (λ e. omega arith) (inr (omega arith));
     }
       where
         pairs : (i j : ℕ) → i < j → j < length g → assignmentWord after i < assignmentWord after j
@@ -175,6 +176,10 @@ module _ (x y : ℕ) (h : y < 512) (r : List ℕ) (e : length r ≡ 1) where
   same-kept =
       ap (same (assignmentRecord x y)) (fields-of r e)
       ∙ sym (same-packed 512 x y (assignmentIn r .child) (assignmentIn r .container) [] [] h (omega arith)) ∙ same-two x y (assignmentIn r .child) (assignmentIn r .container)
+
+  -- and begins with the assignment's record where they are
+  begins-kept : begins (assignmentRecord x y) r ≡ (eqb x (assignmentIn r .child) && eqb y (assignmentIn r .container))
+  begins-kept = begins-all (assignmentRecord x y) r (sym e) ∙ same-kept
 
 -- One assignment more.
 module _ {mem : List ℕ} (t : Table mem) (x y : ℕ) (lx : x < 512) (ly : y < 512) where
@@ -219,23 +224,23 @@ module _ {mem : List ℕ} (t : Table mem) (x y : ℕ) (lx : x < 512) (ly : y < 5
   unfolding withoutAssignment policyOf
   assignment-less =
       let g = group 776 1 1 mem in
-      assignments-regrouped t (wide-less wide (same (assignmentRecord x y))) (less-few (same (assignmentRecord x y)) (assignments-fit t))
+      assignments-regrouped t (wide-less wide (begins (assignmentRecord x y))) (less-few (begins (assignmentRecord x y)) (assignments-fit t))
       ∙ ap (withAssignments (policyOf mem)) (
-      map-less assignmentIn (same (assignmentRecord x y)) (λ a. eqb x (a .child) && eqb y (a .container)) g (λ r i. same-kept x y ly r (wide .each r i))
+      map-less assignmentIn (begins (assignmentRecord x y)) (λ a. eqb x (a .child) && eqb y (a .container)) g (λ r i. begins-kept x y ly r (wide .each r i))
       ∙ rw (← assignments-group mem) refl)
 
   -- and the memory is a table
   pub assignment-less-table : Table (withoutAssignment x y mem)
   unfolding withoutAssignment
   assignment-less-table =
-      assignments-table t (wide-less wide (same (assignmentRecord x y))) (less-few (same (assignmentRecord x y)) (assignments-fit t))
-      (rising-less (λ r. r) (same (assignmentRecord x y)) (group 776 1 1 mem) (group-rises t))
-      (λ r i. group-small t r (less-in (same (assignmentRecord x y)) (group 776 1 1 mem) i))
+      assignments-table t (wide-less wide (begins (assignmentRecord x y))) (less-few (begins (assignmentRecord x y)) (assignments-fit t))
+      (rising-less (λ r. r) (begins (assignmentRecord x y)) (group 776 1 1 mem) (group-rises t))
+      (λ r i. group-small t r (less-in (begins (assignmentRecord x y)) (group 776 1 1 mem) i))
 
   -- the words behind stay zero
   pub assignment-less-clear : Clear 776 1 1 2000 mem → Clear 776 1 1 2000 (withoutAssignment x y mem)
   unfolding withoutAssignment
-  assignment-less-clear = assignments-clear t (wide-less wide (same (assignmentRecord x y))) (less-few (same (assignmentRecord x y)) (assignments-fit t))
+  assignment-less-clear = assignments-clear t (wide-less wide (begins (assignmentRecord x y))) (less-few (begins (assignmentRecord x y)) (assignments-fit t))
 
 -- All assignments of an element out.
 module _ {mem : List ℕ} (t : Table mem) (x : ℕ) where

@@ -13,13 +13,14 @@ use Rattle.model.specs.Policy.{Association, associationFields, hasAssociation, 
 use Rattle.table.specs.Layout.{word, associationStart}
 use Rattle.table.specs.View.{associationAt, associationsOf, policyOf}
 use Rattle.table.specs.Facts.{Table}
-use Rattle.group.specs.Group.{records, group, regroup, firstOf, Fits, Wide, Clear}
+use Rattle.group.specs.Group.{records, group, regroup, begins, firstOf, Fits, Wide, Clear}
+use Rattle.group.proofs.Compare.{begins-all}
 use Rattle.group.proofs.Records.{records-at}
 use Rattle.group.proofs.Regrouped.{count-regrouped, group-regrouped, zero-beyond}
 use Rattle.group.proofs.Wide.{wide-put, wide-less}
 use Rattle.group.proofs.Kept.{wide-group, put-few, less-few}
 use Rattle.store.specs.Words.{associationRecord, withAssociation, withoutAssociation}
-use Rattle.store.proofs.Frames.{Else, head-stays, elements-stay, processes-stay, assignments-stay, rising-stays, small-stays, prohibitions-stay, tidy-stays}
+use Rattle.store.proofs.Frames.{Else, head-stays, elements-stay, processes-stay, assignments-stay, rising-stays, small-stays, prohibitions-stay, short-stays}
 use Rattle.group.proofs.Records.{tabulate-alike}
 use Rattle.store.proofs.Looked.{record-found}
 use Rattle.store.proofs.Regroups.{regroup-leaves, two-words}
@@ -89,7 +90,7 @@ module _ {mem : List ℕ} (t : Table mem) {g : List (List ℕ)} (w : Wide 2 g) (
     few-prohibitions = omega (arith, header 3 (omega arith) (λ e. omega arith), t .few-prohibitions);
     rising = rising-stays t leaves (omega arith) (omega arith) (λ e. omega arith) (inl (omega arith));
     small = small-stays t leaves (omega arith) (omega arith) (λ e. omega arith) (inl (omega arith));
-    tidy = tidy-stays t leaves (omega arith) (omega arith) (λ e. omega arith) (inr (omega arith));
+    short = short-stays t leaves (omega arith) (omega arith) (λ e. omega arith) (inr (omega arith));
   }
 
   -- where each word behind the last association was 0 it is so again
@@ -120,6 +121,10 @@ module _ (a : Association) (h : a .target < 512) where
       ap (same (associationRecord a)) (fields-of r e)
       ∙ sym (same-packed 512 (a .attribute) (a .target) (associationIn r .attribute) (associationIn r .target) (a .rights ∷ []) (associationIn r .rights ∷ []) h (omega arith))
 
+  -- and one begins with the association's where they are
+  begins-kept : (r : List ℕ) → length r ≡ 2 → begins (associationRecord a) r ≡ same (associationFields a) (associationFields (associationIn r))
+  begins-kept r e = begins-all (associationRecord a) r (sym e) ∙ same-kept r e
+
   -- One association more, and one less.
   module _ {mem : List ℕ} (t : Table mem) where
     wide : Wide 2 (group 2776 2 2 mem)
@@ -148,24 +153,24 @@ module _ (a : Association) (h : a .target < 512) where
     pub association-less : policyOf (withoutAssociation a mem) ≡ withAssociations (policyOf mem) (lessFirst (λ b. same (associationFields a) (associationFields b)) (policyOf mem .associations))
     unfolding withoutAssociation policyOf
     association-less =
-        associations-regrouped t (wide-less wide (same (associationRecord a))) (less-few (same (associationRecord a)) (associations-fit t))
+        associations-regrouped t (wide-less wide (begins (associationRecord a))) (less-few (begins (associationRecord a)) (associations-fit t))
         ∙ ap (withAssociations (policyOf mem)) (
-        map-less associationIn (same (associationRecord a)) (λ b. same (associationFields a) (associationFields b)) (group 2776 2 2 mem) (λ r i. same-kept r (wide .each r i))
+        map-less associationIn (begins (associationRecord a)) (λ b. same (associationFields a) (associationFields b)) (group 2776 2 2 mem) (λ r i. begins-kept r (wide .each r i))
         ∙ rw (← associations-group mem) refl)
 
     -- and the memory is a table
     pub association-less-table : Table (withoutAssociation a mem)
     unfolding withoutAssociation
-    association-less-table = associations-table t (wide-less wide (same (associationRecord a))) (less-few (same (associationRecord a)) (associations-fit t))
+    association-less-table = associations-table t (wide-less wide (begins (associationRecord a))) (less-few (begins (associationRecord a)) (associations-fit t))
 
     -- the words behind stay zero
     pub association-less-clear : Clear 2776 2 2 1000 mem → Clear 2776 2 2 1000 (withoutAssociation a mem)
     unfolding withoutAssociation
-    association-less-clear = associations-clear t (wide-less wide (same (associationRecord a))) (less-few (same (associationRecord a)) (associations-fit t))
+    association-less-clear = associations-clear t (wide-less wide (begins (associationRecord a))) (less-few (begins (associationRecord a)) (associations-fit t))
 
     -- the association is there exactly if its record is found
-    pub association-found : {at : ℕ} → at ≡ firstOf (same (associationRecord a)) (records 2 (word mem 2) (drop 2776 mem)) → ltb at (word mem 2) ≡ hasAssociation (policyOf mem) a
+    pub association-found : {at : ℕ} → at ≡ firstOf (begins (associationRecord a)) (records 2 (word mem 2) (drop 2776 mem)) → ltb at (word mem 2) ≡ hasAssociation (policyOf mem) a
     unfolding hasAssociation policyOf
     association-found q =
-        record-found associationIn (λ b. same (associationFields a) (associationFields b)) (associationRecord a) 2776 2 2 mem q (λ r i. same-kept r (wide .each r i))
+        record-found associationIn (λ b. same (associationFields a) (associationFields b)) (associationRecord a) 2776 2 2 mem q (λ r i. begins-kept r (wide .each r i))
         ∙ ap (anyOf (λ b. same (associationFields a) (associationFields b))) (sym (associations-group mem))

@@ -11,7 +11,7 @@ use Rattle.model.specs.Policy.{isKind, isElementId}
 use Rattle.group.proofs.Records.{tabulate-alike}
 use Rattle.table.specs.Layout.{word, assignmentCount, prohibitionCount, assignmentWord, prohibitionStart}
 use Rattle.table.specs.View.{inclusionCount, exclusionCount, elementsOf, processesOf, assignmentsOf, associationsOf, prohibitionsOf, assignmentAt, associationAt, prohibitionAt}
-use Rattle.table.specs.Facts.{Tidy, Table}
+use Rattle.table.specs.Facts.{ShortLists, Table}
 
 -- the words from one place up to another are the same
 pub record Same (mem mem′ : List ℕ) (from to : ℕ) : Type 0 where
@@ -60,7 +60,7 @@ module _ {mem mem′ : List ℕ} (t : Table mem) (c : word mem′ 3 ≡ word mem
       let a = first-same i h in
       let b = listed-same i 1 h (omega arith) in
       let d = listed-same i 2 h (omega arith) in
-      let y = t .tidy i h in
+      let y = t .short i h in
       let n = inclusionCount mem (prohibitionStart i) in
       let m = exclusionCount mem (prohibitionStart i) in
       let p : tabulate n (λ k. word mem′ (prohibitionStart i + 3 + k)) ≡ tabulate n (λ k. word mem (prohibitionStart i + 3 + k)) =
@@ -76,17 +76,15 @@ module _ {mem mem′ : List ℕ} (t : Table mem) (c : word mem′ 3 ≡ word mem
   unfolding prohibitionsOf
   prohibitions-same = ap (λ n. tabulate n (prohibitionAt mem′)) c ∙ tabulate-alike (word mem 3) (prohibitionAt mem′) (prohibitionAt mem) prohibition-same
 
-  -- and they are as tidy
-  tidy-same : (i : ℕ) → i < prohibitionCount mem′ → Tidy mem′ (prohibitionStart i)
-  tidy-same i h =
+  -- and their lists are as short
+  short-same : (i : ℕ) → i < prohibitionCount mem′ → ShortLists mem′ (prohibitionStart i)
+  short-same i h =
       let l : i < word mem 3 = omega (arith, c) in
-      let y = t .tidy i l in
+      let y = t .short i l in
       let d = listed-same i 2 l (omega arith) in
       record {
         few-inclusions = omega (arith, ap (λ w. w / 8) d, y .few-inclusions);
         few-exclusions = omega (arith, ap (λ w. w % 8) d, y .few-exclusions);
-        rest = λ k a b. s .at (prohibitionStart i + 3 + k) (omega arith) (omega (arith, t .few-prohibitions))
-            ∙ y .rest k (omega (arith, ap (λ w. w / 8) d, ap (λ w. w % 8) d)) b;
       }
 
 -- The assignments are in order where their words stay.
@@ -141,10 +139,10 @@ module _ {mem mem′ : List ℕ} {counter from to : ℕ} (t : Table mem) (e : El
   pub associations-stay : (2 ≡ counter → ⊥) → (4776 ≤ from) ⊎ (to ≤ 2776) → associationsOf mem′ ≡ associationsOf mem
   associations-stay d l = associations-same (head-stays 2 (omega arith) d) (t .few-associations) (part 2776 4776 (omega arith) l)
 
-  -- the prohibitions, and that they are tidy
+  -- the prohibitions, and that their lists are short
   module _ (d : 3 ≡ counter → ⊥) (l : (7976 ≤ from) ⊎ (to ≤ 5776)) where
     pub prohibitions-stay : prohibitionsOf mem′ ≡ prohibitionsOf mem
     prohibitions-stay = prohibitions-same t (head-stays 3 (omega arith) d) (part 5776 7976 (omega arith) l)
 
-    pub tidy-stays : (i : ℕ) → i < prohibitionCount mem′ → Tidy mem′ (prohibitionStart i)
-    tidy-stays = tidy-same t (head-stays 3 (omega arith) d) (part 5776 7976 (omega arith) l)
+    pub short-stays : (i : ℕ) → i < prohibitionCount mem′ → ShortLists mem′ (prohibitionStart i)
+    short-stays = short-same t (head-stays 3 (omega arith) d) (part 5776 7976 (omega arith) l)

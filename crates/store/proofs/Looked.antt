@@ -1,4 +1,4 @@
--- Looking a record up: it is found before the end exactly if what it denotes is there.
+-- Looking a record up by the words that it begins with: one is found before the end exactly if what they denote is there.
 -- Assumes nothing.
 use mathlib.Core.Path.{_≡_, refl, sym, ap, _∙_}
 use mathlib.Core.Bool.{Bool, true, false, cond, _||_}
@@ -8,9 +8,9 @@ use native.Mathlib.Omega.{arith}
 use borrow.Author.Tests.{lt-ltb}
 use lib.Dec.{ltb, leb·suc-suc}
 use lib.ListN.{length, drop, getD}
-use Rattle.model.specs.Lists.{In, anyOf, same}
+use Rattle.model.specs.Lists.{In, anyOf}
 use Rattle.model.proofs.Truth.{any-alike}
-use Rattle.group.specs.Group.{records, group, firstOf}
+use Rattle.group.specs.Group.{records, group, begins, firstOf}
 use Rattle.group.proofs.Kept.{length-group}
 
 -- one that passes is found before the end
@@ -29,15 +29,15 @@ unfolding anyOf
 map-any g f [] = refl
 map-any g f (a ∷ l) = ap (_||_ (f (g a))) (map-any g f l)
 
--- a record is found before the end of its group exactly if some record denotes what passes
-pub record-found : {A : Type 0} (denotes : List ℕ → A) (f : A → Bool) (rec : List ℕ) (base width counter : ℕ) (mem : List ℕ) {at : ℕ}
-    → at ≡ firstOf (same rec) (records width (getD mem counter 0) (drop base mem)) → ((r : List ℕ) → In r (group base width counter mem) → same rec r ≡ f (denotes r))
+-- a record that begins with the words is found before the end of its group exactly if some record denotes what passes
+pub record-found : {A : Type 0} (denotes : List ℕ → A) (f : A → Bool) (front : List ℕ) (base width counter : ℕ) (mem : List ℕ) {at : ℕ}
+    → at ≡ firstOf (begins front) (records width (getD mem counter 0) (drop base mem)) → ((r : List ℕ) → In r (group base width counter mem) → begins front r ≡ f (denotes r))
     → ltb at (getD mem counter 0) ≡ anyOf f (map denotes (group base width counter mem))
 unfolding group
-record-found denotes f rec base width counter mem q h =
+record-found denotes f front base width counter mem q h =
     let g : List (List ℕ) = group base width counter mem in
     ap (λ (i : ℕ). ltb i (getD mem counter 0)) q
-    ∙ ap (ltb (firstOf (same rec) g)) (sym (length-group base width counter mem))
-    ∙ first-any (same rec) g
-    ∙ any-alike {f = same rec} {g = λ r. f (denotes r)} g h
+    ∙ ap (ltb (firstOf (begins front) g)) (sym (length-group base width counter mem))
+    ∙ first-any (begins front) g
+    ∙ any-alike {f = begins front} {g = λ r. f (denotes r)} g h
     ∙ sym (map-any denotes f g)

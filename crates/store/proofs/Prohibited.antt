@@ -1,6 +1,7 @@
 -- The prohibitions as a group of records of eleven words, and the policy after one is put in or taken out.
 -- Assumes nothing.
 use mathlib.Core.Path.{_≡_, refl, sym, ap, _∙_}
+use mathlib.Core.Bool.{false}
 use mathlib.Core.List.{List, [], map}
 use mathlib.Core.Logic.{inl, ⊎-elim}
 use Prim.Native.Nat.{ℕ, _+_, _*_, _/_, _%_, _≤_, _<_}
@@ -8,30 +9,30 @@ use native.Mathlib.Omega.{arith}
 use lib.ListN.{length, take, drop, getD}
 use lib.Seq.{getD-take, getD-drop}
 use Rattle.model.specs.Lists.{In, before, same, put, lessFirst, tabulate}
-use Rattle.model.specs.Policy.{Prohibition, prohibitionFields, withProhibitions}
-use Rattle.model.proofs.Truth.{less-in}
+use Rattle.model.specs.Policy.{Prohibition, prohibitionFields, hasProhibition, withProhibitions}
+use Rattle.model.proofs.Truth.{any-none, in-map, less-in}
 use Rattle.model.proofs.Groups.{put-in}
 use Rattle.table.specs.Layout.{word, prohibitionCount, prohibitionStart}
 use Rattle.table.specs.View.{inclusionCount, exclusionCount, prohibitionAt, prohibitionsOf, policyOf}
-use Rattle.table.specs.Facts.{Tidy, Table}
+use Rattle.table.specs.Facts.{ShortLists, Table}
 use Rattle.table.proofs.Tabled.{tabulate-in}
-use Rattle.group.specs.Group.{group, regroup, Fits, Wide, Clear}
+use Rattle.group.specs.Group.{group, regroup, begins, Fits, Wide, Clear}
 use Rattle.group.proofs.Wide.{wide-put, wide-less}
 use Rattle.group.proofs.Records.{records-at, record-at}
 use Rattle.group.proofs.Regrouped.{count-regrouped, group-regrouped, zero-beyond}
 use Rattle.group.proofs.Kept.{wide-group, put-few, less-few}
-use Rattle.store.specs.ProhibitionWords.{Storable, prohibitionRecord, withProhibition, withoutProhibition}
+use Rattle.store.specs.ProhibitionWords.{Storable, prohibitionFront, prohibitionRecord, withProhibition, withoutProhibition}
 use Rattle.store.proofs.Frames.{Else, head-stays, elements-stay, processes-stay, assignments-stay, rising-stays, small-stays, associations-stay}
 use Rattle.group.proofs.Records.{tabulate-alike}
 use Rattle.store.proofs.Regroups.{regroup-leaves, in-getD}
 use Rattle.store.proofs.Mapped.{map-tabulate, map-put, map-less}
-use Rattle.store.proofs.Recorded.{prohibitionFrom, prohibitionIn, storable-narrow, length-record, record-is, record-tidy, record-order, record-same}
+use Rattle.store.proofs.Recorded.{prohibitionFrom, prohibitionIn, storable-narrow, length-record, record-is, record-short, record-order, front-same}
 
 -- the eleven words from one place on are those from another
 record Alike (mem : List ℕ) (start : ℕ) (mem′ : List ℕ) (start′ : ℕ) : Type 0 where
   at : (k : ℕ) → k < 11 → word mem′ (start′ + k) ≡ word mem (start + k)
 
-module _ {mem mem′ : List ℕ} {start start′ : ℕ} (y : Tidy mem start) (a : Alike mem start mem′ start′) where
+module _ {mem mem′ : List ℕ} {start start′ : ℕ} (y : ShortLists mem start) (a : Alike mem start mem′ start′) where
   -- the first word is the same
   first-alike : word mem′ start′ ≡ word mem start
   first-alike = let e : start′ ≡ start′ + 0 = omega arith in let f : start + 0 ≡ start = omega arith in ap (word mem′) e ∙ a .at 0 (omega arith) ∙ ap (word mem) f
@@ -56,14 +57,13 @@ module _ {mem mem′ : List ℕ} {start start′ : ℕ} (y : Tidy mem start) (a 
       (λ k h. listed-alike (start′ + 3 + n + k) (start + 3 + n + k) (n + k) (omega arith) (omega arith) (omega (arith, y .few-inclusions, y .few-exclusions))) in
       rw (first-alike, a .at 1 (omega arith), a .at 2 (omega arith), p, q) refl
 
-  -- and as tidy
-  tidy-alike : Tidy mem′ start′
-  tidy-alike =
+  -- and its lists are as short
+  short-alike : ShortLists mem′ start′
+  short-alike =
       let c = a .at 2 (omega arith) in
       record {
         few-inclusions = omega (arith, ap (λ w. w / 8) c, y .few-inclusions);
         few-exclusions = omega (arith, ap (λ w. w % 8) c, y .few-exclusions);
-        rest = λ k h l. listed-alike (start′ + 3 + k) (start + 3 + k) k refl refl l ∙ y .rest k (omega (arith, ap (λ w. w / 8) c, ap (λ w. w % 8) c)) l;
       }
 
 -- record i, of eleven words
@@ -89,21 +89,21 @@ unfolding prohibitionsOf group
 prohibitions-group {mem} t =
     sym (ap (map prohibitionIn) (records-at 11 (word mem 3) (drop 5776 mem))
     ∙ map-tabulate prohibitionIn (word mem 3) (recordAt mem)
-    ∙ tabulate-alike (word mem 3) (λ i. prohibitionIn (recordAt mem i)) (prohibitionAt mem) (λ i h. from-alike (t .tidy i h) (record-alike mem i)))
+    ∙ tabulate-alike (word mem 3) (λ i. prohibitionIn (recordAt mem i)) (prohibitionAt mem) (λ i h. from-alike (t .short i h) (record-alike mem i)))
 
--- each of which is tidy
-pub group-tidy : {mem : List ℕ} → Table mem → (r : List ℕ) → In r (group 5776 11 3 mem) → Tidy r 0
+-- the lists of each of which are short
+pub group-short : {mem : List ℕ} → Table mem → (r : List ℕ) → In r (group 5776 11 3 mem) → ShortLists r 0
 unfolding group
-group-tidy {mem} t r i =
+group-short {mem} t r i =
     let w = tabulate-in (word mem 3) (recordAt mem) (rw (records-at 11 (word mem 3) (drop 5776 mem)) at i) in
-    rw (← w .is) (tidy-alike (t .tidy (w .at) (w .early)) (record-alike mem (w .at)))
+    rw (← w .is) (short-alike (t .short (w .at) (w .early)) (record-alike mem (w .at)))
 
 -- room for the prohibitions
 pub prohibitions-fit : {mem : List ℕ} → Table mem → Fits 5776 11 3 200 mem
 prohibitions-fit t = record { some = omega arith; apart = omega arith; room = omega (arith, t .size); few = t .few-prohibitions; short = omega (arith, t .size) }
 
--- Other prohibitions in their place: few, each of eleven tidy words.
-module _ {mem : List ℕ} (t : Table mem) {g : List (List ℕ)} (w : Wide 11 g) (few : length g ≤ 200) (tidy : (r : List ℕ) → In r g → Tidy r 0) where
+-- Other prohibitions in their place: few, each of eleven words, with short lists.
+module _ {mem : List ℕ} (t : Table mem) {g : List (List ℕ)} (w : Wide 11 g) (few : length g ≤ 200) (short : (r : List ℕ) → In r g → ShortLists r 0) where
   -- the words after
   after : List ℕ
   after = regroup 5776 11 3 g mem
@@ -132,9 +132,9 @@ module _ {mem : List ℕ} (t : Table mem) {g : List (List ℕ)} (w : Wide 11 g) 
   unfolding group
   record-after i h = sym (record-at 11 (word after 3) (drop 5776 after) i [] (omega (arith, count-after))) ∙ ap (λ (l : List (List ℕ)). getD l i []) group-after
 
-  -- prohibition i after is tidy
-  tidy-after : (i : ℕ) → i < length g → Tidy after (prohibitionStart i)
-  tidy-after i h = tidy-alike (rw (record-after i h) (tidy (getD g i []) (in-getD g i [] h))) (alike-record after i)
+  -- the lists of prohibition i after are short
+  short-after : (i : ℕ) → i < length g → ShortLists after (prohibitionStart i)
+  short-after i h = short-alike (rw (record-after i h) (short (getD g i []) (in-getD g i [] h))) (alike-record after i)
 
   -- the memory is a table
   pub prohibitions-table : Table (regroup 5776 11 3 g mem)
@@ -147,7 +147,7 @@ module _ {mem : List ℕ} (t : Table mem) {g : List (List ℕ)} (w : Wide 11 g) 
     few-prohibitions = omega (arith, count-after);
     rising = rising-stays t leaves (omega arith) (omega arith) (λ e. omega arith) (inl (omega arith));
     small = small-stays t leaves (omega arith) (omega arith) (λ e. omega arith) (inl (omega arith));
-    tidy = λ i h. tidy-after i (omega (arith, count-after));
+    short = λ i h. short-after i (omega (arith, count-after));
   }
 
   -- the policy with those prohibitions
@@ -188,72 +188,78 @@ module _ {mem : List ℕ} (t : Table mem) {b : Prohibition} (s : Storable b) whe
   unfolding more
   more-few h = put-few (λ r. r) (prohibitionRecord b) (prohibitions-fit t) h
 
-  -- each is tidy
-  more-tidy : (r : List ℕ) → In r more → Tidy r 0
+  -- the lists of each are short
+  more-short : (r : List ℕ) → In r more → ShortLists r 0
   unfolding more
-  more-tidy r i =
-      ⊎-elim (λ e. rw e (record-tidy (storable-narrow s))) (group-tidy t r) (put-in (λ (x : List ℕ). x) (prohibitionRecord b) (group 5776 11 3 mem) i)
+  more-short r i =
+      ⊎-elim (λ e. rw e (record-short (storable-narrow s))) (group-short t r) (put-in (λ (x : List ℕ). x) (prohibitionRecord b) (group 5776 11 3 mem) i)
 
   -- a table with one prohibition more is a table
   pub prohibition-put-table : prohibitionCount mem < 200 → Table (withProhibition b mem)
-  prohibition-put-table h = rw more-is (prohibitions-table t more-wide (more-few h) more-tidy)
+  prohibition-put-table h = rw more-is (prohibitions-table t more-wide (more-few h) more-short)
 
-  -- its policy has the prohibition in its place
-  pub prohibition-put : prohibitionCount mem < 200
+  -- where the prohibition is not there, no record is it
+  none-same : hasProhibition (policyOf mem) b ≡ false → (r : List ℕ) → In r (group 5776 11 3 mem) → same (prohibitionFields b) (prohibitionFields (prohibitionIn r)) ≡ false
+  unfolding hasProhibition policyOf
+  none-same d r i = any-none (λ c. same (prohibitionFields b) (prohibitionFields c)) (rw (prohibitions-group t) at d) (in-map prohibitionIn i)
+
+  -- its policy has the prohibition, which was not there, in its place
+  pub prohibition-put : prohibitionCount mem < 200 → hasProhibition (policyOf mem) b ≡ false
       → policyOf (withProhibition b mem) ≡ withProhibitions (policyOf mem) (put prohibitionFields b (policyOf mem .prohibitions))
   unfolding policyOf more
-  prohibition-put h =
+  prohibition-put h d =
       let n = storable-narrow s in
-      ap policyOf more-is ∙ prohibitions-regrouped t more-wide (more-few h) more-tidy
+      ap policyOf more-is ∙ prohibitions-regrouped t more-wide (more-few h) more-short
       ∙ ap (withProhibitions (policyOf mem))
       (map-put prohibitionIn (λ r. r) prohibitionFields (prohibitionRecord b) (group 5776 11 3 mem)
-      (λ r i. record-order n r (wide-group (prohibitions-fit t) .each r i) (group-tidy t r i) ∙ ap (λ c. before (prohibitionFields c) (prohibitionFields (prohibitionIn r))) (sym (record-is n)))
+      (λ r i. record-order n r (wide-group (prohibitions-fit t) .each r i) (group-short t r i) (none-same d r i)
+      ∙ ap (λ c. before (prohibitionFields c) (prohibitionFields (prohibitionIn r))) (sym (record-is n)))
       ∙ ap (λ c. put prohibitionFields c (map prohibitionIn (group 5776 11 3 mem))) (record-is n)
       ∙ ap (put prohibitionFields b) (sym (prohibitions-group t)))
 
   -- each word behind the last prohibition is 0 as before
   pub prohibition-put-clear : prohibitionCount mem < 200 → Clear 5776 11 3 200 mem → Clear 5776 11 3 200 (withProhibition b mem)
-  prohibition-put-clear h c = rw more-is (prohibitions-clear t more-wide (more-few h) more-tidy c)
+  prohibition-put-clear h c = rw more-is (prohibitions-clear t more-wide (more-few h) more-short c)
 
-  -- the group less the first record that is the prohibition's
+  -- the group less the first record that begins with the prohibition's words
   fewer : List (List ℕ)
-  fewer = lessFirst (same (prohibitionRecord b)) (group 5776 11 3 mem)
+  fewer = lessFirst (begins (prohibitionFront b)) (group 5776 11 3 mem)
 
   -- the words with it
   fewer-is : withoutProhibition b mem ≡ regroup 5776 11 3 fewer mem
   unfolding withoutProhibition fewer
-  fewer-is = ap (λ (n : ℕ). regroup 5776 n 3 (lessFirst (same (prohibitionRecord b)) (group 5776 n 3 mem)) mem) (length-record (storable-narrow s))
+  fewer-is = refl
 
   -- each record has eleven words
   fewer-wide : Wide 11 fewer
   unfolding fewer
-  fewer-wide = wide-less (wide-group (prohibitions-fit t)) (same (prohibitionRecord b))
+  fewer-wide = wide-less (wide-group (prohibitions-fit t)) (begins (prohibitionFront b))
 
   -- there are at most 200
   fewer-few : length fewer ≤ 200
   unfolding fewer
-  fewer-few = less-few (same (prohibitionRecord b)) (prohibitions-fit t)
+  fewer-few = less-few (begins (prohibitionFront b)) (prohibitions-fit t)
 
-  -- each is tidy
-  fewer-tidy : (r : List ℕ) → In r fewer → Tidy r 0
+  -- the lists of each are short
+  fewer-short : (r : List ℕ) → In r fewer → ShortLists r 0
   unfolding fewer
-  fewer-tidy r i = group-tidy t r (less-in (same (prohibitionRecord b)) (group 5776 11 3 mem) i)
+  fewer-short r i = group-short t r (less-in (begins (prohibitionFront b)) (group 5776 11 3 mem) i)
 
   -- a table with one prohibition less is a table
   pub prohibition-less-table : Table (withoutProhibition b mem)
-  prohibition-less-table = rw fewer-is (prohibitions-table t fewer-wide fewer-few fewer-tidy)
+  prohibition-less-table = rw fewer-is (prohibitions-table t fewer-wide fewer-few fewer-short)
 
   -- its policy lacks the first prohibition with just those fields
   pub prohibition-less : policyOf (withoutProhibition b mem)
       ≡ withProhibitions (policyOf mem) (lessFirst (λ c. same (prohibitionFields b) (prohibitionFields c)) (policyOf mem .prohibitions))
   unfolding policyOf fewer
   prohibition-less =
-      ap policyOf fewer-is ∙ prohibitions-regrouped t fewer-wide fewer-few fewer-tidy
+      ap policyOf fewer-is ∙ prohibitions-regrouped t fewer-wide fewer-few fewer-short
       ∙ ap (withProhibitions (policyOf mem))
-      (map-less prohibitionIn (same (prohibitionRecord b)) (λ c. same (prohibitionFields b) (prohibitionFields c)) (group 5776 11 3 mem)
-      (λ r i. record-same (storable-narrow s) r (wide-group (prohibitions-fit t) .each r i) (group-tidy t r i))
+      (map-less prohibitionIn (begins (prohibitionFront b)) (λ c. same (prohibitionFields b) (prohibitionFields c)) (group 5776 11 3 mem)
+      (λ r i. front-same (storable-narrow s) r (wide-group (prohibitions-fit t) .each r i) (group-short t r i))
       ∙ ap (lessFirst (λ c. same (prohibitionFields b) (prohibitionFields c))) (sym (prohibitions-group t)))
 
   -- each word behind the last prohibition is 0 as before
   pub prohibition-less-clear : Clear 5776 11 3 200 mem → Clear 5776 11 3 200 (withoutProhibition b mem)
-  prohibition-less-clear c = rw fewer-is (prohibitions-clear t fewer-wide fewer-few fewer-tidy c)
+  prohibition-less-clear c = rw fewer-is (prohibitions-clear t fewer-wide fewer-few fewer-short c)

@@ -50,7 +50,7 @@ module _ (mem : List ℕ) (x y : ℕ) where
   unfolding withAssignment
   assignment-added h e = ap (left Done) e ∙ added-done (leb 2000 (word mem 1)) (withAssignment x y mem) mem (lt-leb 2000 (word mem 1) h)
 
-  pub assignment-taken : {mem′ : List ℕ} → mem′ ≡ withoutRecord 776 1 (assignmentRecord x y) mem → mem′ ≡ withoutAssignment x y mem
+  pub assignment-taken : {mem′ : List ℕ} → mem′ ≡ withoutRecord 776 1 1 (assignmentRecord x y) mem → mem′ ≡ withoutAssignment x y mem
   unfolding withoutAssignment
   assignment-taken e = e
 
@@ -62,7 +62,7 @@ module _ (mem : List ℕ) (a : Association) where
   unfolding withAssociation
   association-added h e = ap (left Done) e ∙ added-done (leb 1000 (word mem 2)) (withAssociation a mem) mem (lt-leb 1000 (word mem 2) h)
 
-  pub association-taken : {mem′ : List ℕ} → mem′ ≡ withoutRecord 2776 2 (associationRecord a) mem → mem′ ≡ withoutAssociation a mem
+  pub association-taken : {mem′ : List ℕ} → mem′ ≡ withoutRecord 2776 2 2 (associationRecord a) mem → mem′ ≡ withoutAssociation a mem
   unfolding withoutAssociation
   association-taken e = e
 

@@ -24,21 +24,25 @@ pub record Storable (b : Prohibition) : Type 0 where
   pub few-inclusions : length (b .inclusion) ≤ 4
   pub few-exclusions : length (b .exclusion) ≤ 4
 
--- the record of a prohibition: eleven words, the ids that it lists in the first of the last eight, zero in those that no id takes
-unfoldable pub prohibitionRecord : Prohibition → List ℕ
-prohibitionRecord b =
+-- the words of a prohibition that count: the first three and the ids that it lists
+unfoldable pub prohibitionFront : Prohibition → List ℕ
+prohibitionFront b =
     (b .sort * 1024 + b .subject * 2 + b .form)
     ∷ b .rights
     ∷ (length (b .inclusion) * 8 + length (b .exclusion))
-    ∷ (listed b ++ replicate (8 - length (listed b)) 0)
+    ∷ listed b
+
+-- the record of a prohibition: eleven words, those that count and zero in the places that no id takes
+unfoldable pub prohibitionRecord : Prohibition → List ℕ
+prohibitionRecord b = prohibitionFront b ++ replicate (8 - length (listed b)) 0
 
 -- the words with one prohibition more
 unfoldable pub withProhibition : Prohibition → List ℕ → List ℕ
 withProhibition b mem = withRecord prohibitionsFrom prohibitionCounter (prohibitionRecord b) mem
 
--- the words with one prohibition less
+-- the words with one prohibition less: the first record that begins with its words
 unfoldable pub withoutProhibition : Prohibition → List ℕ → List ℕ
-withoutProhibition b mem = withoutRecord prohibitionsFrom prohibitionCounter (prohibitionRecord b) mem
+withoutProhibition b mem = withoutRecord prohibitionsFrom 11 prohibitionCounter (prohibitionFront b) mem
 
 -- one prohibition more: never a 201st
 abbrev pub addedProhibition : Prohibition → List ℕ → Left

@@ -32,7 +32,7 @@ withAssignment child container mem = withRecord assignmentsFrom assignmentCounte
 
 -- the words with one assignment less
 unfoldable pub withoutAssignment : (child container : ℕ) → List ℕ → List ℕ
-withoutAssignment child container mem = withoutRecord assignmentsFrom assignmentCounter (assignmentRecord child container) mem
+withoutAssignment child container mem = withoutRecord assignmentsFrom 1 assignmentCounter (assignmentRecord child container) mem
 
 -- the words without any assignment of x
 unfoldable pub withoutAssignmentsOf : (x : ℕ) → List ℕ → List ℕ
@@ -48,7 +48,7 @@ withAssociation a mem = withRecord associationsFrom associationCounter (associat
 
 -- the words with one association less
 unfoldable pub withoutAssociation : Association → List ℕ → List ℕ
-withoutAssociation a mem = withoutRecord associationsFrom associationCounter (associationRecord a) mem
+withoutAssociation a mem = withoutRecord associationsFrom 2 associationCounter (associationRecord a) mem
 
 -- A record more, where there is room: "the limit is reached" is the only refusal, and leaves the words.
 unfoldable pub added : (full : Bool) → (more words : List ℕ) → Left

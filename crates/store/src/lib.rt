@@ -71,6 +71,7 @@ pub fn take_assignment(mem: &mut [u32], child: u32, container: u32)
     group::take_out(
         mem,
         ASSIGNMENTS,
+        1,
         ASSIGNMENT_COUNTER,
         &[child * 512 + container],
     );
@@ -116,6 +117,7 @@ pub fn take_association(mem: &mut [u32], attribute: u32, target: u32, rights: u3
     group::take_out(
         mem,
         ASSOCIATIONS,
+        2,
         ASSOCIATION_COUNTER,
         &[attribute * 512 + target, rights],
     );
@@ -129,7 +131,7 @@ pub fn has_association(mem: &[u32], attribute: u32, target: u32, rights: u32) ->
     ensures { λ r. ⌜ r ≡ hasAssociation (policyOf (now (mem .entry))) (record { attribute = attribute; target = target; rights = rights }) ⌝ }
 {
     let n = mem[ASSOCIATION_COUNTER] as usize;
-    group::find(mem, ASSOCIATIONS, n, &[attribute * 512 + target, rights]) < n
+    group::find(mem, ASSOCIATIONS, 2, n, &[attribute * 512 + target, rights]) < n
 }
 
 // The record of a prohibition.
@@ -170,8 +172,9 @@ pub fn has_prohibition(
     ensures { λ r. ⌜ r ≡ hasProhibition (policyOf (now (mem .entry))) (prohibition sort subject form rights (now (inclusion .entry)) (now (exclusion .entry))) ⌝ }
 {
     let rec = prohibition_record(sort, subject, form, rights, inclusion, exclusion);
+    let used = 3 + inclusion.len() + exclusion.len();
     let n = mem[PROHIBITION_COUNTER] as usize;
-    group::find(mem, PROHIBITIONS, n, &rec) < n
+    group::find(mem, PROHIBITIONS, 11, n, &rec[0..used]) < n
 }
 
 // Puts the prohibition in its place, unless there are 200.
@@ -211,5 +214,6 @@ pub fn take_prohibition(
     ensures { λ _. ⌜ now (mem .exit) ≡ withoutProhibition (prohibition sort subject form rights (now (inclusion .entry)) (now (exclusion .entry))) (now (mem .entry)) ⌝ }
 {
     let rec = prohibition_record(sort, subject, form, rights, inclusion, exclusion);
-    group::take_out(mem, PROHIBITIONS, PROHIBITION_COUNTER, &rec);
+    let used = 3 + inclusion.len() + exclusion.len();
+    group::take_out(mem, PROHIBITIONS, 11, PROHIBITION_COUNTER, &rec[0..used]);
 }

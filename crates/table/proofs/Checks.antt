@@ -1,18 +1,17 @@
--- Loops that check: each so far passed, one fails, all passed; and the pass over the assignments.
+-- Tests of each number below another, and the passes over the prohibitions and over the assignments that make them.
 -- Assumes nothing.
 use mathlib.Core.Path.{_≡_, refl, sym, ap, _∙_}
 use mathlib.Core.Bool.{Bool, true, false, not, _&&_}
 use mathlib.Core.List.{List}
-use Prim.Native.Nat.{ℕ, zero, suc, _+_, _*_, _-_, _≤_, _<_}
+use Prim.Native.Nat.{ℕ, zero, suc, _+_, _*_, _-_, _/_, _%_, _≤_, _<_}
 use native.Mathlib.Nat.{not-suc-le-zero}
 use native.Mathlib.Omega.{arith}
 use native.Mathlib.Decide.{decLt}
-use borrow.Author.Tests.{not-true, not-false, lt-ltb, ltb-true, eqb-true, eq-eqb, lt-leb, le-leb}
-use lib.Dec.{eqb, ltb}
-use Rattle.model.proofs.Truth.{and-left, and-right, and-join, same-truth, fails-when, clash}
+use borrow.Author.Tests.{not-true, not-false, lt-ltb, ltb-true}
+use lib.Dec.{leb, ltb}
+use Rattle.model.proofs.Truth.{and-left, and-right, and-join, same-truth}
 use Rattle.table.specs.Layout.{word, assignmentWord, prohibitionStart}
-use Rattle.table.specs.Facts.{Unused}
-use Rattle.table.specs.View.{eachBelow, areRising, areSmall, areZero, isTidy, areTidy, inclusionCount, exclusionCount}
+use Rattle.table.specs.View.{eachBelow, areRising, areSmall, hasShortLists, haveShortLists}
 
 module _ (t : ℕ → Bool) where
   -- the test holds of each
@@ -30,101 +29,42 @@ module _ (t : ℕ → Bool) where
   so-each zero h = refl
   so-each (suc n) h = and-join (eachBelow n t) (t n) (so-each n (λ i l. h i (omega arith))) (h n (omega arith))
 
-  -- none is below 0
-  pub each-none : eachBelow 0 t ≡ true
-  unfolding eachBelow
-  each-none = refl
+-- Whether the lists of one prohibition are short, from its word of counts.
+pub lists-short : (mem : List ℕ) (start : ℕ) → (leb (word mem (start + 2) / 8) 4 && leb (word mem (start + 2) % 8) 4) ≡ hasShortLists mem start
+unfolding hasShortLists
+lists-short mem start = refl
 
-  -- one more passes
-  pub each-more : (i : ℕ) → eachBelow i t ≡ true → t i ≡ true → eachBelow (i + 1) t ≡ true
-  each-more i e h = let s : i + 1 ≡ suc i = omega arith in rw s (next i e h)
-    where
-      next : (i : ℕ) → eachBelow i t ≡ true → t i ≡ true → eachBelow (suc i) t ≡ true
-      next i e h = so-each (suc i) (λ k l. elim (decLt k i) [ yes b ↦ each-so i e k b | no b ↦ let s : k ≡ i = omega arith in rw s h ])
+-- eachBelow, one further
+each-next : (t : ℕ → Bool) (n : ℕ) → eachBelow (suc n) t ≡ (eachBelow n t && t n)
+unfolding eachBelow
+each-next t n = refl
 
-  -- all have passed
-  pub each-all : (n i : ℕ) → eachBelow i t ≡ true → n ≤ i → true ≡ eachBelow n t
-  each-all n i e h = sym (so-each n (λ k l. each-so i e k (omega arith)))
-
-  -- one fails
-  pub each-fails : (n i : ℕ) → i < n → t i ≡ false → false ≡ eachBelow n t
-  each-fails n i h f = sym (fails-when (eachBelow n t) (λ e. clash (each-so n e i h) f))
-
--- The sum of those of the first k of eight words that are not used: it is 0 exactly if each of them is.
-pub record UnusedTo (mem : List ℕ) (from used sum k : ℕ) : Type 0 where
-  pub inside : k ≤ 8
-  pub small : sum ≤ 4294967295 * k
-  pub says : sum ≡ 0 → (j : ℕ) → used ≤ j → j < k → word mem (from + j) ≡ 0
-  pub when : ((j : ℕ) → used ≤ j → j < k → word mem (from + j) ≡ 0) → sum ≡ 0
-
-pub unused-none : (mem : List ℕ) (from used : ℕ) → UnusedTo mem from used 0 0
-unused-none mem from used = record { inside = omega arith; small = omega arith; says = λ e j u l. absurd (omega arith); when = λ h. refl }
-
-module _ {mem : List ℕ} {from used sum k : ℕ} (z : UnusedTo mem from used sum k) where
-  pub unused-more : {r : ℕ} → r ≤ 4294967295 → k < 8 → Unused (word mem (from + k)) used k r → UnusedTo mem from used (sum + r) (k + 1)
-  unused-more {r} m l u = record {
-    inside = omega arith;
-    small = omega (arith, z .small);
-    says = λ e j a b. elim (decLt j k) [
-      | yes y ↦ z .says (omega arith) j a y
-      | no y ↦ let q : j ≡ k = omega arith in rw q (omega (arith, u .free (omega arith)))
-    ];
-    when = λ h. omega (arith, z .when (λ j a b. h j a (omega arith)), last h);
-  }
-    where
-      last : ((j : ℕ) → used ≤ j → j < k + 1 → word mem (from + j) ≡ 0) → r ≡ 0
-      last h = elim (decLt k used) [ yes y ↦ u .taken y | no y ↦ u .free (omega arith) ∙ h k (omega arith) (omega arith) ]
-
-  pub unused-all : used ≤ 8 → 8 ≤ k → eqb sum 0 ≡ areZero mem (from + used) (8 - used)
-  unfolding areZero
-  unused-all l h = same-truth (eqb sum 0) (eachBelow (8 - used) (λ j. eqb (word mem (from + used + j)) 0)) all none
-    where
-      all : eqb sum 0 ≡ true → eachBelow (8 - used) (λ j. eqb (word mem (from + used + j)) 0) ≡ true
-      all e = so-each (λ j. eqb (word mem (from + used + j)) 0) (8 - used) (λ j b.
-          let s : from + used + j ≡ from + (used + j) = omega arith in
-          eq-eqb (word mem (from + used + j)) 0 (rw s (z .says (eqb-true sum 0 e) (used + j) (omega arith) (omega arith))))
-
-      none : eachBelow (8 - used) (λ j. eqb (word mem (from + used + j)) 0) ≡ true → eqb sum 0 ≡ true
-      none e = eq-eqb sum 0 (z .when (λ j a b.
-          let s : from + j ≡ from + used + (j - used) = omega arith in
-          let d = each-so (λ i. eqb (word mem (from + used + i)) 0) (8 - used) e (j - used) (omega (arith, z .inside)) in
-          ap (word mem) s ∙ eqb-true (word mem (from + used + (j - used))) 0 d))
-
--- The first i prohibitions are tidy.
-pub record TidyTo (mem : List ℕ) (n i : ℕ) : Type 0 where
+-- The pass over the prohibitions: the lists of the first i are short exactly if `short` says so.
+pub record ShortTo (mem : List ℕ) (n : ℕ) (short : Bool) (i : ℕ) : Type 0 where
   pub inside : i ≤ n
-  pub is : eachBelow i (λ k. isTidy mem (prohibitionStart k)) ≡ true
+  pub is : short ≡ haveShortLists mem i
 
-pub tidy-none : (mem : List ℕ) (n : ℕ) → TidyTo mem n 0
-tidy-none mem n = record { inside = omega arith; is = each-none (λ k. isTidy mem (prohibitionStart k)) }
+-- those of none are
+pub short-none : (mem : List ℕ) (n : ℕ) → ShortTo mem n true 0
+unfolding haveShortLists eachBelow
+short-none mem n = record { inside = omega arith; is = refl }
 
-module _ {mem : List ℕ} {n i : ℕ} (z : TidyTo mem n i) where
-  pub tidy-more : i < n → {b : Bool} → b ≡ isTidy mem (5776 + 11 * i) → not b ≡ false → TidyTo mem n (i + 1)
-  tidy-more l {b} q h = record { inside = omega arith; is = each-more (λ k. isTidy mem (prohibitionStart k)) i (z .is) (sym q ∙ not-false b h) }
+-- those of one more: short so far, and short at it
+short-next : (mem : List ℕ) (short : Bool) (i : ℕ) → short ≡ haveShortLists mem i
+    → (short && hasShortLists mem (5776 + 11 * i)) ≡ haveShortLists mem (i + 1)
+unfolding haveShortLists
+short-next mem short i e =
+    let s : i + 1 ≡ suc i = omega arith in
+    rw (s, each-next (λ k. hasShortLists mem (prohibitionStart k)) i, e) refl
 
-  pub tidy-fails : i < n → {b : Bool} → b ≡ isTidy mem (5776 + 11 * i) → not b ≡ true → false ≡ areTidy mem n
-  unfolding areTidy
-  tidy-fails l {b} q f = each-fails (λ k. isTidy mem (prohibitionStart k)) n i l (sym q ∙ not-true b f)
+module _ {mem : List ℕ} {n : ℕ} {short : Bool} {i : ℕ} (z : ShortTo mem n short i) where
+  -- one prohibition further
+  pub short-more : i < n → {b : Bool} → b ≡ hasShortLists mem (5776 + 11 * i) → ShortTo mem n (short && b) (i + 1)
+  short-more l {b} q = record { inside = omega arith; is = rw q (short-next mem short i (z .is)) }
 
-  pub tidy-all : n ≤ i → true ≡ areTidy mem n
-  unfolding areTidy
-  tidy-all h = each-all (λ k. isTidy mem (prohibitionStart k)) n i (z .is) h
-
--- Whether one prohibition is tidy: too many in a list, or the rest decides.
-module _ (mem : List ℕ) (start : ℕ) where
-  pub many-inclusions : 4 < inclusionCount mem start → false ≡ isTidy mem start
-  unfolding isTidy
-  many-inclusions h = rw (lt-leb (inclusionCount mem start) 4 h) refl
-
-  pub many-exclusions : inclusionCount mem start ≤ 4 → 4 < exclusionCount mem start → false ≡ isTidy mem start
-  unfolding isTidy
-  many-exclusions l h = rw (le-leb (inclusionCount mem start) 4 l, lt-leb (exclusionCount mem start) 4 h) refl
-
-  pub rest-tidy : {b : Bool} → inclusionCount mem start ≤ 4 → exclusionCount mem start ≤ 4
-      → b ≡ areZero mem (start + 3 + (inclusionCount mem start + exclusionCount mem start)) (8 - (inclusionCount mem start + exclusionCount mem start))
-      → b ≡ isTidy mem start
-  unfolding isTidy
-  rest-tidy l h e = rw (le-leb (inclusionCount mem start) 4 l, le-leb (exclusionCount mem start) 4 h) e
+  -- past the last it says it of all
+  pub short-all : n ≤ i → short ≡ haveShortLists mem n
+  short-all h = let e : i ≡ n = omega (arith, z .inside) in z .is ∙ ap (haveShortLists mem) e
 
 -- The pass over the assignments: up to i, each is above the one before it exactly if `up` says so.
 pub record RiseTo (mem : List ℕ) (n : ℕ) (up : Bool) (i : ℕ) : Type 0 where
@@ -135,11 +75,6 @@ pub record RiseTo (mem : List ℕ) (n : ℕ) (up : Bool) (i : ℕ) : Type 0 wher
 pub rise-none : (mem : List ℕ) (n : ℕ) → 1 ≤ n → RiseTo mem n true 1
 unfolding areRising eachBelow
 rise-none mem n h = record { some = omega arith; inside = h; is = refl }
-
--- eachBelow, one further
-each-next : (t : ℕ → Bool) (n : ℕ) → eachBelow (suc n) t ≡ (eachBelow n t && t n)
-unfolding eachBelow
-each-next t n = refl
 
 rise-next : (mem : List ℕ) (up : Bool) (i : ℕ) → 1 ≤ i → up ≡ areRising mem i → (up && ltb (word mem (776 + i - 1)) (word mem (776 + i))) ≡ areRising mem (i + 1)
 unfolding areRising

@@ -82,7 +82,7 @@ empty-table = record {
   few-prohibitions = omega arith;
   rising = λ i j h l. absurd (omega (arith, empty-word 1 (λ e. omega arith)));
   small = λ i l. absurd (omega (arith, empty-word 1 (λ e. omega arith)));
-  tidy = λ i l. absurd (omega (arith, empty-word 3 (λ e. omega arith)));
+  short = λ i l. absurd (omega (arith, empty-word 3 (λ e. omega arith)));
 }
 
 -- none passes

@@ -15,11 +15,11 @@ use Rattle.table.specs.Facts.{Table, AtMost}
 module _ {mem : List ℕ} (t : Table mem) (i : ℕ) (h : i < prohibitionCount mem) where
   -- at most four inclusions
   pub inclusions-few : AtMost (inclusionCount mem (prohibitionStart i)) 4 (word mem (5776 + 11 * i + 2) / 8 % 8)
-  inclusions-few = let y = t .tidy i h in record { is = omega (arith, y .few-inclusions); few = omega (arith, y .few-inclusions) }
+  inclusions-few = let y = t .short i h in record { is = omega (arith, y .few-inclusions); few = omega (arith, y .few-inclusions) }
 
   -- at most four exclusions
   pub exclusions-few : AtMost (exclusionCount mem (prohibitionStart i)) 4 (word mem (5776 + 11 * i + 2) % 8)
-  exclusions-few = let y = t .tidy i h in record { is = omega arith; few = y .few-exclusions }
+  exclusions-few = let y = t .short i h in record { is = omega arith; few = y .few-exclusions }
 
 -- n words from a place on, told off
 part-told : (mem : List ℕ) (from n : ℕ) → from + n ≤ length mem → take n (drop from mem) ≡ tabulate n (λ k. word mem (from + k))

@@ -10,8 +10,8 @@ use lib.Dec.{eqb, leb, ltb}
 use lib.ListN.{length}
 use Rattle.model.proofs.Truth.{and-left, and-right}
 use Rattle.table.specs.Layout.{wordCount, mark, word, assignmentCount, associationCount, prohibitionCount, assignmentWord, prohibitionStart}
-use Rattle.table.specs.View.{inclusionCount, exclusionCount, eachBelow, areRising, areSmall, areZero, isTidy, areTidy, holdsTable}
-use Rattle.table.specs.Facts.{Tidy, Table}
+use Rattle.table.specs.View.{inclusionCount, exclusionCount, eachBelow, areRising, areSmall, hasShortLists, haveShortLists, holdsTable}
+use Rattle.table.specs.Facts.{ShortLists, Table}
 use Rattle.table.proofs.Checks.{each-so, so-each}
 
 -- The answers, in the order of the tests.
@@ -47,16 +47,16 @@ module _ (mem : List ℕ) where
             out-of-order h =
                 let f : (areRising mem (word mem 1) && areSmall mem (word mem 1)) ≡ false = sym e ∙ not-true o h in
                 rw (eq-eqb (length mem) 8192 l, eq-eqb (word mem 0) mark m, le-leb (word mem 1) 2000 a, le-leb (word mem 2) 1000 b, le-leb (word mem 3) 200 c)
-                (sym (cut (areRising mem (word mem 1)) (areSmall mem (word mem 1)) (areTidy mem (word mem 3)) f))
+                (sym (cut (areRising mem (word mem 1)) (areSmall mem (word mem 1)) (haveShortLists mem (word mem 3)) f))
               where
                 cut : (x y z : Bool) → (x && y) ≡ false → (x && y && z) ≡ false
                 cut true true z g = absurd (let q : _≡_ {A = ℕ} 0 1 = cc in omega arith)
                 cut true false z g = refl
                 cut false y z g = refl
 
-            pub tidy-decides : not o ≡ false → {t : Bool} → t ≡ areTidy mem (word mem 3) → t ≡ holdsTable mem
+            pub short-decides : not o ≡ false → {t : Bool} → t ≡ haveShortLists mem (word mem 3) → t ≡ holdsTable mem
             unfolding holdsTable
-            tidy-decides h {t} q =
+            short-decides h {t} q =
                 let f : (areRising mem (word mem 1) && areSmall mem (word mem 1)) ≡ true = sym e ∙ not-false o h in
                 rw (eq-eqb (length mem) 8192 l, eq-eqb (word mem 0) mark m, le-leb (word mem 1) 2000 a, le-leb (word mem 2) 1000 b, le-leb (word mem 3) 200 c, and-left (areRising mem (word mem 1)) (areSmall mem (word mem 1)) f, and-right (areRising mem (word mem 1)) (areSmall mem (word mem 1)) f) q
 
@@ -76,29 +76,20 @@ rising-pairs mem n e i j h l = go (j - i - 1) j (omega arith) l
         let t = step (i + d + 1) (omega arith) in
         rw s (omega (arith, r, t))
 
--- What a tidy prohibition is.
-tidy-of : (mem : List ℕ) (start : ℕ) → isTidy mem start ≡ true → Tidy mem start
-unfolding isTidy areZero
-tidy-of mem start e =
+-- What short lists are.
+short-of : (mem : List ℕ) (start : ℕ) → hasShortLists mem start ≡ true → ShortLists mem start
+unfolding hasShortLists
+short-of mem start e =
     let i = inclusionCount mem start in
     let x = exclusionCount mem start in
-    let z = eachBelow (8 - (i + x)) (λ k. eqb (word mem (start + 3 + (i + x) + k)) 0) in
-    let h = and-left (leb i 4 && leb x 4) z e in
-    record {
-      few-inclusions = leb-true i 4 (and-left (leb i 4) (leb x 4) h);
-      few-exclusions = leb-true x 4 (and-right (leb i 4) (leb x 4) h);
-      rest = λ k l m.
-          let s : start + 3 + k ≡ start + 3 + (i + x) + (k - (i + x)) = omega arith in
-          let q = each-so (λ k. eqb (word mem (start + 3 + (i + x) + k)) 0) (8 - (i + x)) (and-right (leb i 4 && leb x 4) z e) (k - (i + x)) (omega arith) in
-          rw s (eqb-true (word mem (start + 3 + (i + x) + (k - (i + x)))) 0 q);
-    }
+    record { few-inclusions = leb-true i 4 (and-left (leb i 4) (leb x 4) e); few-exclusions = leb-true x 4 (and-right (leb i 4) (leb x 4) e) }
 
 -- Memory that passes the test has all that a table has.
 pub table-of : (mem : List ℕ) → holdsTable mem ≡ true → Table mem
-unfolding holdsTable areSmall areTidy
+unfolding holdsTable areSmall haveShortLists
 table-of mem e =
     let s : ℕ → Bool = λ i. ltb (assignmentWord mem i) 262144 in
-    let t : ℕ → Bool = λ i. isTidy mem (prohibitionStart i) in
+    let t : ℕ → Bool = λ i. hasShortLists mem (prohibitionStart i) in
     let a1 = eqb (length mem) wordCount in
     let a2 = eqb (word mem 0) mark in
     let a3 = leb (assignmentCount mem) 2000 in
@@ -121,21 +112,17 @@ table-of mem e =
       few-prohibitions = leb-true (prohibitionCount mem) 200 (and-right (a1 && a2 && a3 && a4) a5 e5);
       rising = rising-pairs mem (assignmentCount mem) (and-right (a1 && a2 && a3 && a4 && a5) a6 e6);
       small = λ i l. ltb-true (assignmentWord mem i) 262144 (each-so s (assignmentCount mem) (and-right (a1 && a2 && a3 && a4 && a5 && a6) a7 e7) i l);
-      tidy = λ i l. tidy-of mem (prohibitionStart i) (each-so t (prohibitionCount mem) (and-right (a1 && a2 && a3 && a4 && a5 && a6 && a7) a8 e) i l);
+      short = λ i l. short-of mem (prohibitionStart i) (each-so t (prohibitionCount mem) (and-right (a1 && a2 && a3 && a4 && a5 && a6 && a7) a8 e) i l);
     }
 
-tidy-is : (mem : List ℕ) (start : ℕ) → Tidy mem start → isTidy mem start ≡ true
-unfolding isTidy areZero
-tidy-is mem start y =
-    let i = inclusionCount mem start in
-    let x = exclusionCount mem start in
-    rw (le-leb i 4 (y .few-inclusions), le-leb x 4 (y .few-exclusions))
-    (so-each (λ k. eqb (word mem (start + 3 + (i + x) + k)) 0) (8 - (i + x)) (λ k l. eq-eqb (word mem (start + 3 + (i + x) + k)) 0
-    (let s : start + 3 + (i + x) + k ≡ start + 3 + (i + x + k) = omega arith in rw s (y .rest (i + x + k) (omega arith) (omega arith)))))
-
 -- And the other way.
+short-is : (mem : List ℕ) (start : ℕ) → ShortLists mem start → hasShortLists mem start ≡ true
+unfolding hasShortLists
+short-is mem start y = rw (le-leb (inclusionCount mem start) 4 (y .few-inclusions)) (le-leb (exclusionCount mem start) 4 (y .few-exclusions))
+
+-- What has all that a table has passes the test.
 pub of-table : {mem : List ℕ} → Table mem → holdsTable mem ≡ true
-unfolding holdsTable areRising areSmall areTidy
+unfolding holdsTable areRising areSmall haveShortLists
 of-table {mem} t =
     rw (
       eq-eqb (length mem) wordCount (t .size),
@@ -145,4 +132,4 @@ of-table {mem} t =
       le-leb (prohibitionCount mem) 200 (t .few-prohibitions),
       so-each (λ i. ltb (assignmentWord mem i) (assignmentWord mem (suc i))) (assignmentCount mem - 1) (λ i l. lt-ltb (assignmentWord mem i) (assignmentWord mem (suc i)) (t .rising i (suc i) (omega arith) (omega arith))),
       so-each (λ i. ltb (assignmentWord mem i) 262144) (assignmentCount mem) (λ i l. lt-ltb (assignmentWord mem i) 262144 (t .small i l)),
-    ) (so-each (λ i. isTidy mem (prohibitionStart i)) (prohibitionCount mem) (λ i l. tidy-is mem (prohibitionStart i) (t .tidy i l)))
+    ) (so-each (λ i. hasShortLists mem (prohibitionStart i)) (prohibitionCount mem) (λ i l. short-is mem (prohibitionStart i) (t .short i l)))

@@ -7,16 +7,10 @@ use lib.ListN.{length}
 use Rattle.table.specs.Layout.{wordCount, mark, word, assignmentCount, associationCount, prohibitionCount, assignmentWord, prohibitionStart}
 use Rattle.table.specs.View.{inclusionCount, exclusionCount}
 
--- the words of a prohibition are as we write them
-pub record Tidy (mem : List ℕ) (start : ℕ) : Type 0 where
+-- the lists of a prohibition are short
+pub record ShortLists (mem : List ℕ) (start : ℕ) : Type 0 where
   pub few-inclusions : inclusionCount mem start ≤ 4
   pub few-exclusions : exclusionCount mem start ≤ 4
-  pub rest : (k : ℕ) → inclusionCount mem start + exclusionCount mem start ≤ k → k < 8 → word mem (start + 3 + k) ≡ 0
-
--- r is the word w where its place k is not used, else 0
-pub record Unused (w used k r : ℕ) : Type 0 where
-  pub taken : k < used → r ≡ 0
-  pub free : used ≤ k → r ≡ w
 
 -- the memory holds a table
 pub record Table (mem : List ℕ) : Type 0 where
@@ -27,7 +21,7 @@ pub record Table (mem : List ℕ) : Type 0 where
   pub few-prohibitions : prohibitionCount mem ≤ 200
   pub rising : (i j : ℕ) → i < j → j < assignmentCount mem → assignmentWord mem i < assignmentWord mem j
   pub small : (i : ℕ) → i < assignmentCount mem → assignmentWord mem i < 262144
-  pub tidy : (i : ℕ) → i < prohibitionCount mem → Tidy mem (prohibitionStart i)
+  pub short : (i : ℕ) → i < prohibitionCount mem → ShortLists mem (prohibitionStart i)
 
 -- r is the place of the first assignment whose child is x or above
 pub record FirstOf (mem : List ℕ) (x r : ℕ) : Type 0 where

@@ -30,22 +30,16 @@ inclusionCount mem start = word mem (start + 2) / 8
 abbrev pub exclusionCount : List ℕ → (start : ℕ) → ℕ
 exclusionCount mem start = word mem (start + 2) % 8
 
--- n words from a place on are zero
-unfoldable pub areZero : List ℕ → (from n : ℕ) → Bool
-areZero mem from n = eachBelow n (λ k. eqb (word mem (from + k)) 0)
-
--- the words of a prohibition are as we write them: at most four ids in each list, and zero in the places that no id takes
-unfoldable pub isTidy : List ℕ → (start : ℕ) → Bool
-isTidy mem start =
-    let used = inclusionCount mem start + exclusionCount mem start in
-    leb (inclusionCount mem start) 4 && leb (exclusionCount mem start) 4 && areZero mem (start + 3 + used) (8 - used)
+-- the lists of the prohibition that starts at a word are short: at most four ids each
+unfoldable pub hasShortLists : List ℕ → (start : ℕ) → Bool
+hasShortLists mem start = leb (inclusionCount mem start) 4 && leb (exclusionCount mem start) 4
 
 -- so are those of the first n prohibitions
-unfoldable pub areTidy : List ℕ → (n : ℕ) → Bool
-areTidy mem n = eachBelow n (λ i. isTidy mem (prohibitionStart i))
+unfoldable pub haveShortLists : List ℕ → (n : ℕ) → Bool
+haveShortLists mem n = eachBelow n (λ i. hasShortLists mem (prohibitionStart i))
 
 -- "docs/ says what memory holds a table": the length, the mark, the counts within the limits, the assignments strictly rising, their children
--- below 512, and the words of each prohibition tidy
+-- below 512, and at most four ids in each list of a prohibition
 unfoldable pub holdsTable : List ℕ → Bool
 holdsTable mem =
     eqb (length mem) wordCount
@@ -55,7 +49,7 @@ holdsTable mem =
     && leb (prohibitionCount mem) 200
     && areRising mem (assignmentCount mem)
     && areSmall mem (assignmentCount mem)
-    && areTidy mem (prohibitionCount mem)
+    && haveShortLists mem (prohibitionCount mem)
 
 -- The policy. An element is there if its kind is 1 to 5, a process if its user is 1 to 511; element 0 and process 0 are never there.
 unfoldable pub elementsOf : List ℕ → List Element

@@ -1,13 +1,13 @@
 // The working memory as words: which memory holds a table, and each field of the policy that it is.
 ghost use mathlib.Core.Path.{_≡_};
 ghost use mathlib.Core.Bool.{_&&_};
-ghost use Prim.Native.Nat.{_+_, _-_, _≤_, _<_};
+ghost use Prim.Native.Nat.{_+_, _≤_, _<_};
 ghost use lib.ListN.{length, replicate};
 ghost use Rattle.model.specs.Policy.{isElementId, isProcessId, kindOf, isThere, userOf, isAssigned};
 ghost use Rattle.table.specs.Layout.{word, assignmentCount, associationCount, prohibitionCount, prohibitionStart};
-ghost use Rattle.table.specs.View.{areRising, areSmall, areZero, areTidy, holdsTable, isTidy, emptyTable, policyOf, inclusionCount, exclusionCount, assignmentAt, associationAt, prohibitionAt};
+ghost use Rattle.table.specs.View.{areRising, areSmall, hasShortLists, haveShortLists, holdsTable, emptyTable, policyOf, inclusionCount, exclusionCount, assignmentAt, associationAt, prohibitionAt};
 ghost use Rattle.table.specs.Answers.{left, newTable};
-ghost use Rattle.table.specs.Facts.{Table, Unused, FirstOf, AtMost};
+ghost use Rattle.table.specs.Facts.{Table, FirstOf, AtMost};
 
 // Where everything stands in the memory: 8,192 words.
 pub const WORDS: usize = 8192;
@@ -130,63 +130,28 @@ pub fn user_of(mem: &[u32], i: u32) -> u32
     u
 }
 
-// The word where its place k is not used, else 0.
-fn unused(w: u32, used: usize, k: usize) -> u32
-    ensures { λ r. ⌜ Unused w used k r ⌝ }
-{
-    if k < used {
-        return 0;
-    }
-    w
-}
-
-// Whether those of the eight words from `from` on that are not used are all zero. No early exit: every call asks it of each prohibition.
-fn is_zero(mem: &[u32], from: usize, used: usize) -> bool
-    requires { ⌜ from + 8 ≤ length (now mem) ⌝ }
-    requires { ⌜ used ≤ 8 ⌝ }
-    ensures { λ r. ⌜ r ≡ areZero (now (mem .entry)) (from + used) (8 - used) ⌝ }
-{
-    let mut sum = 0;
-    let mut k = 0;
-    while k < 8 {
-        sum = sum + unused(mem[from + k], used, k) as u64;
-        k += 1;
-    }
-    sum == 0
-}
-
-// Whether the words of the prohibition that starts at a word are as we write them.
-fn is_tidy(mem: &[u32], start: usize) -> bool
+// Whether the lists of the prohibition that starts at a word are short: at most four ids each.
+fn has_short_lists(mem: &[u32], start: usize) -> bool
     requires { ⌜ start + 11 ≤ length (now mem) ⌝ }
-    ensures { λ r. ⌜ r ≡ isTidy (now (mem .entry)) start ⌝ }
+    ensures { λ r. ⌜ r ≡ hasShortLists (now (mem .entry)) start ⌝ }
 {
     let counts = mem[start + 2];
-    let inclusions = counts / 8;
-    let exclusions = counts % 8;
-    if 4 < inclusions {
-        return false;
-    }
-    if 4 < exclusions {
-        return false;
-    }
-    let used = (inclusions + exclusions) as usize;
-    is_zero(mem, start + 3, used)
+    (counts / 8 <= 4) & (counts % 8 <= 4)
 }
 
-// Whether the first n prohibitions are.
-fn are_tidy(mem: &[u32], n: usize) -> bool
+// Whether those of the first n prohibitions are. No early exit: every call asks it of each prohibition.
+fn have_short_lists(mem: &[u32], n: usize) -> bool
     requires { ⌜ length (now mem) ≡ 8192 ⌝ }
     requires { ⌜ n ≤ 200 ⌝ }
-    ensures { λ r. ⌜ r ≡ areTidy (now (mem .entry)) n ⌝ }
+    ensures { λ r. ⌜ r ≡ haveShortLists (now (mem .entry)) n ⌝ }
 {
+    let mut short = true;
     let mut i = 0;
     while i < n {
-        if !is_tidy(mem, PROHIBITIONS + 11 * i) {
-            return false;
-        }
+        short = short & has_short_lists(mem, PROHIBITIONS + 11 * i);
         i += 1;
     }
-    true
+    short
 }
 
 // Whether each of the first n assignments is above the one before it. No early exit: it is the one pass over all assignments that every call makes.
@@ -242,7 +207,7 @@ pub fn holds(mem: &[u32]) -> bool
     if !are_in_order(mem, mem[ASSIGNMENT_COUNTER] as usize) {
         return false;
     }
-    are_tidy(mem, mem[PROHIBITION_COUNTER] as usize)
+    have_short_lists(mem, mem[PROHIBITION_COUNTER] as usize)
 }
 
 // Makes words that are all zero the empty table.

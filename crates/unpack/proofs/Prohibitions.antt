@@ -15,7 +15,7 @@ use Rattle.model.proofs.Truth.{and-cut}
 use Rattle.model.proofs.Image.Groups.{group-count}
 use Rattle.group.specs.Group.{laid}
 use Rattle.group.proofs.Laid.{laid-none, laid-length}
-use Rattle.store.specs.ProhibitionWords.{prohibitionRecord}
+use Rattle.store.specs.ProhibitionWords.{prohibitionFront, prohibitionRecord}
 use Rattle.store.proofs.Recorded.{storable-narrow, length-record}
 use Rattle.measure.specs.Places.{Reaches, listedAt, behind}
 use Rattle.measure.proofs.Placed.{at-drop, prohibition-rest, behind-more}
@@ -56,7 +56,7 @@ passing-none {s} {at} {n} {mem} few r lists size =
 -- the third word of a record says how many ids are listed
 third-word : {s : List ℕ} {at : ℕ} {rec : List ℕ} → Short s at → rec ≡ prohibitionRecord (readProhibition (drop at (bitsOf s)) .value)
     → getD rec 2 0 / 8 % 8 + getD rec 2 0 % 8 ≡ listedAt (bitsOf s) at
-unfolding prohibitionRecord
+unfolding prohibitionRecord prohibitionFront
 third-word {s} {at} {rec} k e =
     let b : Prohibition = readProhibition (drop at (bitsOf s)) .value in
     let w : getD rec 2 0 ≡ length (b .inclusion) * 8 + length (b .exclusion) = ap (λ (r : List ℕ). getD r 2 0) e in

@@ -15,7 +15,7 @@ use Rattle.table.specs.View.{holdsTable, policyOf, emptyTable}
 use Rattle.table.specs.Facts.{Table}
 use Rattle.store.specs.Words.{associationRecord}
 use Rattle.store.specs.ProhibitionWords.{prohibitionRecord}
-use Rattle.store.proofs.Recorded.{Narrow as Packed}
+use Rattle.store.proofs.Recorded.{Narrow as Packed, length-front, front-counted, record-front}
 use Rattle.screen.specs.Stowable.{listsShort, stowable}
 use Rattle.screen.proofs.Rules.{Parts, parts, short-lists}
 use Rattle.unpack.specs.Words.{withKinds, withUsers, wordsOf, withAssignments, withAssociations, withProhibitions, tableOf}
@@ -63,11 +63,12 @@ module _ (p : Policy) (h : stowable p ≡ true) where
 
   -- the prohibitions
   prohibition-words : length (wordsOf prohibitionRecord (p .prohibitions)) ≤ 2200
-  unfolding prohibitionRecord
   prohibition-words = omega (arith, length-words prohibitionRecord 11 (p .prohibitions) eleven, few .prohibitions)
     where
       eleven : (b : Prohibition) → In b (p .prohibitions) → length (prohibitionRecord b) ≡ 11
-      eleven b i = let s = short b i in simp (length-append, length-replicate) (omega (arith, s .0, s .1))
+      eleven b i =
+          let s = short b i in
+          ap length (record-front b) ∙ simp (length-append, length-replicate) (omega (arith, length-front b, front-counted b, s .0, s .1))
 
   -- as many words with the associations
   second-length : length (second p) ≡ 8192

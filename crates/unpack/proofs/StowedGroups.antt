@@ -14,7 +14,7 @@ use Rattle.group.specs.Group.{regroup, Wide}
 use Rattle.group.proofs.Regrouped.{group-regrouped}
 use Rattle.table.specs.Layout.{word}
 use Rattle.table.specs.View.{holdsTable, policyOf}
-use Rattle.table.specs.Facts.{Table, Tidy}
+use Rattle.table.specs.Facts.{Table, ShortLists}
 use Rattle.table.proofs.Test.{table-of, of-table}
 use Rattle.table.proofs.Counted.{assignments-long, associations-long, prohibitions-long}
 use Rattle.store.specs.Words.{assignmentRecord, associationRecord}
@@ -22,7 +22,7 @@ use Rattle.store.specs.ProhibitionWords.{prohibitionRecord}
 use Rattle.store.proofs.Mapped.{map-rising, fields-packed}
 use Rattle.store.proofs.Assigned.{assignmentIn, assignments-fit, group-rises, assignments-regrouped, assignments-table, assignment-back}
 use Rattle.store.proofs.Associated.{associationIn, associations-regrouped, associations-table, association-back}
-use Rattle.store.proofs.Recorded.{Narrow as Packed, prohibitionIn, length-record, record-is, record-tidy}
+use Rattle.store.proofs.Recorded.{Narrow as Packed, prohibitionIn, length-record, record-is, record-short}
 use Rattle.store.proofs.Prohibited.{prohibitions-regrouped, prohibitions-table}
 use Rattle.unpack.specs.Words.{withAssignments, withAssociations, withProhibitions}
 use Rattle.unpack.proofs.StowedLayers.{records-wide, layer-regroup}
@@ -77,9 +77,9 @@ module _ {mem : List ℕ} (t : Table mem) (none : policyOf mem .prohibitions ≡
   prohibitions-wide : Wide 11 (map prohibitionRecord l)
   prohibitions-wide = records-wide prohibitionRecord 11 l (λ b i. length-record (packed b i))
 
-  -- which are as we write them
-  prohibitions-tidy : (r : List ℕ) → In r (map prohibitionRecord l) → Tidy r 0
-  prohibitions-tidy r i = let m = map-in prohibitionRecord l i in rw (← m .is) (record-tidy (packed (m .from) (m .there)))
+  -- and short lists
+  prohibitions-short : (r : List ℕ) → In r (map prohibitionRecord l) → ShortLists r 0
+  prohibitions-short r i = let m = map-in prohibitionRecord l i in rw (← m .is) (record-short (packed (m .from) (m .there)))
 
   -- the words are those of the group put anew
   prohibitions-are : withProhibitions l mem ≡ regroup 5776 11 3 (map prohibitionRecord l) mem
@@ -92,12 +92,12 @@ module _ {mem : List ℕ} (t : Table mem) (none : policyOf mem .prohibitions ≡
 
   -- the words are a table
   pub prohibitions-stowed-table : Table (withProhibitions l mem)
-  prohibitions-stowed-table = rw prohibitions-are (prohibitions-table t prohibitions-wide prohibitions-few prohibitions-tidy)
+  prohibitions-stowed-table = rw prohibitions-are (prohibitions-table t prohibitions-wide prohibitions-few prohibitions-short)
 
   -- whose policy has those prohibitions
   pub prohibitions-stowed : policyOf (withProhibitions l mem) ≡ policy.withProhibitions (policyOf mem) l
   prohibitions-stowed =
-      ap policyOf prohibitions-are ∙ prohibitions-regrouped t prohibitions-wide prohibitions-few prohibitions-tidy
+      ap policyOf prohibitions-are ∙ prohibitions-regrouped t prohibitions-wide prohibitions-few prohibitions-short
       ∙ ap (policy.withProhibitions (policyOf mem)) (map-back prohibitionRecord prohibitionIn l (λ b i. record-is (packed b i)))
 
 -- the record of an assignment

@@ -1,5 +1,6 @@
 -- `group::place` meets its contract. Invariant: the place is i and the place in the records that are left. Assumes nothing.
 use Prim.Native.Nat.{_-_}
+use lib.ListN.{length}
 use Rattle.model.specs.Lists.{before}
 use Rattle.group.proofs.Found.{Searched, searched-none, next-fits, searched-more, searched-found, searched-all}
 use native.Mathlib.Omega.{arith}
@@ -7,7 +8,7 @@ use Rattle.group.proofs.place.Statement.{statement}
 use Rattle.group.proofs.place.Tie as tie
 
 abbrev Inv-loop : tie.InvT-loop
-Inv-loop mem base n rec i₀ at₀ i at = Searched before mem base n rec i at
+Inv-loop mem base n rec i₀ at₀ i at = Searched before mem base (length rec) n rec i at
 
 abbrev μ-loop : tie.MeasureT-loop
 μ-loop mem base n rec i₀ at₀ i at = n - i

@@ -13,7 +13,7 @@ slice-read-n : tie.Need-slice-read-n
 slice-read-n c = search needs
 
 cast-n : tie.Need-cast-n
-cast-n c = omega (arith, count-small (c .before .before .before .pre))
+cast-n c = omega (arith, count-small (c .before .before .before .pre .0))
 
 find-requires : tie.Need-find-requires
 find-requires c κs = search needs

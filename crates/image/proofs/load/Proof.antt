@@ -1,10 +1,10 @@
-use Rattle.image.proofs.Loading.{other-length, image-refused, image-stored}
+use Rattle.image.proofs.Loading.{other-length, image-refused, image-ended, image-stored}
 use borrow.Author.Needs.{needs}
 use Rattle.image.proofs.load.Statement.{statement}
 use Rattle.image.proofs.load.Tie as tie
 use Rattle.image.proofs.load.Reads as reads
 use Rattle.image.proofs.load.Lts as lts
-use Rattle.group.proofs.store.Reads as store-reads
+use Rattle.image.proofs.copy.Reads as copy-reads
 use Rattle.image.proofs.read.Reads as read-reads
 
 returns : tie.Need-returns
@@ -19,11 +19,11 @@ read-requires c κs = search needs
 returns-2 : tie.Need-returns-2
 returns-2 c = search image-refused
 
-slice-aggregate-store : tie.Need-slice-aggregate-store
-slice-aggregate-store c = search needs
+slice-aggregate-copy : tie.Need-slice-aggregate-copy
+slice-aggregate-copy c = search needs
 
-store-requires : tie.Need-store-requires
-store-requires c κs = search needs
+copy-requires : tie.Need-copy-requires
+copy-requires c κs = (search needs, search image-ended)
 
 same-length : tie.Need-same-length
 same-length c = search needs
@@ -39,7 +39,7 @@ load-spec =
     slice-aggregate-read
     read-requires
     returns-2
-    slice-aggregate-store
-    store-requires
+    slice-aggregate-copy
+    copy-requires
     same-length
     returns-3)

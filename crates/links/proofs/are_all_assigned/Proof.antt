@@ -1,50 +1,54 @@
 use borrow.Author.Needs.{needs}
 use Prim.Native.Nat.{_-_}
-use Rattle.table.specs.View.{policyOf}
-use Rattle.table.specs.Facts.{FirstOf}
-use Rattle.links.specs.Returning.{isPlaced}
-use Rattle.links.proofs.Numbered.{IdsPass, ids-none, ids-more, element-fails, elements-pass}
+use mathlib.Core.Logic.{⊎-elim}
+use Rattle.links.proofs.Placing.{PlacedTo, child-most, next-fits, placed-none, placed-fails, placed-same, placed-more, placed-all}
 use native.Mathlib.Omega.{arith}
 use Rattle.links.proofs.are_all_assigned.Statement.{statement}
 use Rattle.links.proofs.are_all_assigned.Tie as tie
 use Rattle.links.proofs.are_all_assigned.Reads as reads
 use Rattle.links.proofs.are_all_assigned.Lts as lts
-use Rattle.links.proofs.is_placed.Reads as is-placed-reads
-use Rattle.links.proofs.next_of.Reads as next-of-reads
-use Rattle.table.proofs.first_of.Reads as first-of-reads
+use Rattle.links.proofs.are_free.Reads as are-free-reads
+use Rattle.table.proofs.assignment_count.Reads as assignment-count-reads
+use Rattle.table.proofs.child_at.Reads as child-at-reads
 
 abbrev Inv-loop : tie.InvT-loop
-Inv-loop mem first₀ x₀ first x = IdsPass (isPlaced (policyOf mem)) x × FirstOf mem x first
+Inv-loop mem n x₀ i₀ x i = PlacedTo mem x i
 
 abbrev μ-loop : tie.MeasureT-loop
-μ-loop mem first₀ x₀ first x = 512 - x
+μ-loop mem n x₀ i₀ x i = n - i
 
-first-of-requires : tie.Need-first-of-requires Inv-loop μ-loop
-first-of-requires c κs = search needs
+assignment-count-requires : tie.Need-assignment-count-requires Inv-loop μ-loop
+assignment-count-requires c κs = search needs
 
 loop-holds : tie.Need-loop-holds Inv-loop μ-loop
-loop-holds c = (search ids-none, search needs)
+loop-holds c = search placed-none
 
-next-of-requires : tie.Need-next-of-requires Inv-loop μ-loop
-next-of-requires c κs = (search needs, (omega arith, search needs))
+child-at-requires : tie.Need-child-at-requires Inv-loop μ-loop
+child-at-requires c κs = (search needs, omega arith)
 
-is-placed-requires : tie.Need-is-placed-requires Inv-loop μ-loop
-is-placed-requires c κs = (search needs, (omega arith, (search needs, search needs)))
+are-free-requires : tie.Need-are-free-requires Inv-loop μ-loop
+are-free-requires c κs = (search needs, (omega arith, search child-most))
 
 returns : tie.Need-returns Inv-loop μ-loop
-returns c = search element-fails
+returns c = search placed-fails
 
 add-x : tie.Need-add-x Inv-loop μ-loop
-add-x c = omega arith
+add-x c = record { fits = search next-fits }
+
+add-i : tie.Need-add-i Inv-loop μ-loop
+add-i c = omega arith
 
 loop-less : tie.Need-loop-less Inv-loop μ-loop
 loop-less c = omega arith
 
 loop-again : tie.Need-loop-again Inv-loop μ-loop
-loop-again c = (search ids-more, search needs)
+loop-again c = ⊎-elim (λ w. search placed-more) (λ w. search placed-same) (c .if1 .came)
+
+are-free-requires-2 : tie.Need-are-free-requires-2 Inv-loop μ-loop
+are-free-requires-2 c κs = (search needs, (omega arith, omega arith))
 
 returns-2 : tie.Need-returns-2 Inv-loop μ-loop
-returns-2 c = search elements-pass
+returns-2 c = search placed-all
 
 pub are-all-assigned-spec : {M : Type 1} → statement M
 are-all-assigned-spec =
@@ -52,12 +56,14 @@ are-all-assigned-spec =
     (tie.spec
     Inv-loop
     μ-loop
-    first-of-requires
+    assignment-count-requires
     loop-holds
-    next-of-requires
-    is-placed-requires
+    child-at-requires
+    are-free-requires
     returns
     add-x
+    add-i
     loop-less
     loop-again
+    are-free-requires-2
     returns-2)

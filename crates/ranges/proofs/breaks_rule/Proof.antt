@@ -7,9 +7,9 @@ use Rattle.ranges.proofs.breaks_rule.Lts as lts
 use Rattle.ranges.proofs.are_assignments_in_range.Reads as are-assignments-in-range-reads
 use Rattle.ranges.proofs.are_associations_in_range.Reads as are-associations-in-range-reads
 use Rattle.ranges.proofs.are_prohibitions_in_range.Reads as are-prohibitions-in-range-reads
+use Rattle.ranges.proofs.are_prohibitions_rising.Reads as are-prohibitions-rising-reads
 use Rattle.ranges.proofs.are_rising.Reads as are-rising-reads
 use Rattle.table.proofs.association_count.Reads as association-count-reads
-use Rattle.table.proofs.prohibition_count.Reads as prohibition-count-reads
 
 are-assignments-in-range-requires : tie.Need-are-assignments-in-range-requires
 are-assignments-in-range-requires c κs = search needs
@@ -38,11 +38,8 @@ are-rising-requires c κs = search needs
 returns-4 : tie.Need-returns-4
 returns-4 c = search broken-order
 
-prohibition-count-requires : tie.Need-prohibition-count-requires
-prohibition-count-requires c κs = search needs
-
-are-rising-requires-2 : tie.Need-are-rising-requires-2
-are-rising-requires-2 c κs = search needs
+are-prohibitions-rising-requires : tie.Need-are-prohibitions-rising-requires
+are-prohibitions-rising-requires c κs = search needs
 
 returns-5 : tie.Need-returns-5
 returns-5 c = search order-decides
@@ -60,6 +57,5 @@ breaks-rule-spec =
     association-count-requires
     are-rising-requires
     returns-4
-    prohibition-count-requires
-    are-rising-requires-2
+    are-prohibitions-rising-requires
     returns-5)

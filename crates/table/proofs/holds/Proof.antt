@@ -1,11 +1,11 @@
-use Rattle.table.proofs.Test.{other-length, other-mark, many-assignments, many-associations, many-prohibitions, out-of-order, tidy-decides}
+use Rattle.table.proofs.Test.{other-length, other-mark, many-assignments, many-associations, many-prohibitions, out-of-order, short-decides}
 use borrow.Author.Needs.{needs}
 use Rattle.table.proofs.holds.Statement.{statement}
 use Rattle.table.proofs.holds.Tie as tie
 use Rattle.table.proofs.holds.Reads as reads
 use Rattle.table.proofs.holds.Lts as lts
 use Rattle.table.proofs.are_in_order.Reads as are-in-order-reads
-use Rattle.table.proofs.are_tidy.Reads as are-tidy-reads
+use Rattle.table.proofs.have_short_lists.Reads as have-short-lists-reads
 
 returns : tie.Need-returns
 returns c = search other-length
@@ -46,17 +46,17 @@ are-in-order-requires c κs = search needs
 returns-6 : tie.Need-returns-6
 returns-6 c = search out-of-order
 
-shared-slice-read-are-tidy : tie.Need-shared-slice-read-are-tidy
-shared-slice-read-are-tidy c = search needs
+shared-slice-read-have-short-lists : tie.Need-shared-slice-read-have-short-lists
+shared-slice-read-have-short-lists c = search needs
 
-cast-are-tidy : tie.Need-cast-are-tidy
-cast-are-tidy c = search needs
+cast-have-short-lists : tie.Need-cast-have-short-lists
+cast-have-short-lists c = search needs
 
-are-tidy-requires : tie.Need-are-tidy-requires
-are-tidy-requires c κs = search needs
+have-short-lists-requires : tie.Need-have-short-lists-requires
+have-short-lists-requires c κs = search needs
 
 returns-7 : tie.Need-returns-7
-returns-7 c = search tidy-decides
+returns-7 c = search short-decides
 
 pub holds-spec : {M : Type 1} → statement M
 holds-spec =
@@ -75,7 +75,7 @@ holds-spec =
     cast-are-in-order
     are-in-order-requires
     returns-6
-    shared-slice-read-are-tidy
-    cast-are-tidy
-    are-tidy-requires
+    shared-slice-read-have-short-lists
+    cast-have-short-lists
+    have-short-lists-requires
     returns-7)
