@@ -20,7 +20,7 @@ static void ask(const char *name, uint32_t process, uint32_t object)
         if (granted)
             printf("  right %u in class %u, by the association of %u with %u\n", row->right, row->number, row->attribute, row->target);
         else if (row->cause == 1)
-            printf("  right %u of argument %u is not held: class %u lacks it\n", row->right, row->argument, row->number);
+            printf("  right %u of argument %u is not held: class %u lacks it\n", row->right, row->argument, row->number); /* class 0: the element is in none */
         else
             printf("  right %u of argument %u is restricted, through %u\n", row->right, row->argument, row->number);
 }
@@ -28,10 +28,10 @@ static void ask(const char *name, uint32_t process, uint32_t object)
 int main(int count, char **words)
 {
     FILE *file = count == 2 ? fopen(words[1], "rb") : NULL;
-    size_t length = file == NULL ? 0 : fread(image, 1, sizeof image, file); /* no file: no bytes, refused with 12 */
+    size_t length = file == NULL ? 0 : fread(image, 1, sizeof image, file);
     uint32_t refusal = qd_load(table, QD_TABLE_WORDS, image, length);
-    if (refusal) {
-        printf("refused with %u\n", refusal);
+    if (file == NULL || refusal != 0) {
+        file == NULL ? puts("no image file") : printf("refused with %u\n", refusal);
         return 1;
     }
     ask("K1", 1, 9);

@@ -217,7 +217,7 @@ fn ends(policy: &Policy) -> (u16, u16) {
     (*heads.min_by_key(|(_, count)| **count).expect("the foot itself").0, foot)
 }
 
-/// Commands that are refused, each after the table and its own lines were looked at.
+/// Commands that are refused, each by a line of its own, after the table was looked at.
 fn refusals(policy: &Policy) -> Vec<(&'static str, Command)> {
     let number = u32::from;
     let of_kind = |kind: u8| number(middle(policy.of_kind(kind)).expect("one of each kind"));

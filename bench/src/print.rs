@@ -35,8 +35,9 @@ fn ratio(other: f64, proved: f64) -> String {
 /// The ratios of all tables, then the times of each.
 pub fn all(measured: &[Measured]) -> String {
     let mut text = String::new();
-    let lent = "**Lent words.** Both programs are lent the words and tell first whether they hold a table: the second \
-                  program's time by the proved call's.";
+    let lent =
+        "**Lent words.** The second program's time, and that of its own test of the lent words, which the \
+                proved call makes too, by the proved call's.";
     let kept = "**Kept sets.** The second program answers from sets that it keeps, and judges no memory: its time by \
                 the proved call's.";
     ratios(&mut text, lent, measured, judged).expect("a string takes all");

@@ -832,6 +832,13 @@ fn spoilt(script: &mut Script) {
         script.word(PROHIBITIONS.start + place, 7);
         script.ask_why(1, 1, [10, 0, 0]);
     }
+    // a prohibition that stands with other words there is not put in again
+    script.house();
+    script.prohibition(1, 5, 1, 1, [&[7], &[8]]);
+    script.word(PROHIBITIONS.start + 5, 9);
+    script.prohibition(1, 5, 1, 1, [&[7], &[8]]);
+    script.prohibition(1, 5, 1, 1, [&[7], &[8, 9]]);
+    script.ask_why(1, 1, [9, 0, 0]);
     script.house();
     let last = PROHIBITIONS.start + PROHIBITIONS.width * 199;
     // as many as there can be: a thousand associations and two hundred prohibitions of zeros

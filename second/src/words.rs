@@ -44,9 +44,26 @@ impl Group {
         words[self.start..self.start + length].chunks_exact(self.width)
     }
 
+    /// The words of a record that count: of a prohibition not those in the places that no id takes.
+    fn counting<'a>(&self, record: &'a [u32]) -> &'a [u32] {
+        match self.width {
+            11 => &record[..3 + (record[2] / 8 + record[2] % 8) as usize],
+            _ => record,
+        }
+    }
+
     /// Does the record stand in the group? The words hold a table.
     pub fn has(&self, words: &[u32], record: &[u32]) -> bool {
-        self.records(words).any(|standing| standing == record)
+        self.records(words).any(|standing| self.counting(standing) == self.counting(record))
+    }
+
+    /// Fills the places of each prohibition that no id takes: they count for nothing. The words hold a table.
+    pub fn fill_places(&self, words: &mut [u32], mut number: impl FnMut() -> u32) {
+        for record in 0..words[self.counter] as usize {
+            let record = &mut words[self.start + self.width * record..][..self.width];
+            let counting = self.counting(record).len();
+            record[counting..].fill_with(&mut number);
+        }
     }
 
     /// Puts the record before the first that it is before, and counts it; false where there is no room.

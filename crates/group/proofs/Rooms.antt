@@ -26,7 +26,3 @@ fits-fewer {base} {width} {counter} {most} n f h k =
 -- room for one record more, where the group is not full
 pub room-for-one : {base width counter most : ℕ} {l : List ℕ} → Fits base width counter most l → getD l counter 0 < most → Fits base width counter (getD l counter 0 + 1) l
 room-for-one {base} {width} {counter} {most} {l} f h = fits-fewer (getD l counter 0 + 1) f (omega arith) (omega arith)
-
--- room for just those that stand there
-pub room-as-is : {base width counter most : ℕ} {l : List ℕ} → Fits base width counter most l → Fits base width counter (getD l counter 0) l
-room-as-is {base} {width} {counter} {most} {l} f = fits-fewer (getD l counter 0) f (omega arith) (f .few)

@@ -23,7 +23,7 @@ fn is_before(mem: &[u32], at: usize, rec: &[u32]) -> bool
     false
 }
 
-// The record is the one that starts at word `at`.
+// The words are those that stand from word `at` on.
 fn is_same(mem: &[u32], at: usize, rec: &[u32]) -> bool
     requires { ⌜ at + length (now rec) ≤ length (now mem) ⌝ }
     ensures { λ r. ⌜ r ≡ same (now (rec .entry)) (take (length (now (rec .entry))) (drop at (now (mem .entry)))) ⌝ }

@@ -61,7 +61,7 @@ sizes-tell s words {n} e h =
     }
 
 -- 13 is the first of a policy that breaks a rule
-pub breaks : (p : Policy) → breaksRule p ≡ true → refusal (policyLines p) ≡ 13
+breaks : (p : Policy) → breaksRule p ≡ true → refusal (policyLines p) ≡ 13
 unfolding refusal
 breaks p b = rw b
 

@@ -45,7 +45,7 @@ assignments-rise {mem} t =
     order r s p q = ap₂ before (one-word r p) (one-word s q) ∙ word-order (getD r 0 0) (getD s 0 0) [] []
 
 -- the associations rise exactly if their words do
-pub associations-rise : {mem : List ℕ} → Table mem → recordsRise mem 2776 2 2 (associationCount mem) ≡ rising associationFields (policyOf mem .associations)
+pub associations-rise : {mem : List ℕ} → Table mem → recordsRise mem 2776 2 (associationCount mem) ≡ rising associationFields (policyOf mem .associations)
 unfolding policyOf recordsRise group
 associations-rise {mem} t =
     let w = wide-group (associations-fit t) in

@@ -30,14 +30,14 @@ next-decides mem at stride key l h {r} e =
     none-before (before (take key (drop at mem)) (take key (drop (at + stride) mem))) (rw (w, n) at e)
 
 -- all n records rise exactly if those from the one at `at` on do, which is the last of the first i
-pub record RiseFrom (mem : List ℕ) (base stride key n at i : ℕ) : Type 0 where
+pub record RiseFrom (mem : List ℕ) (base stride n at i : ℕ) : Type 0 where
   pub some : 1 ≤ i
   pub within : at + stride * (n + 1 - i) ≤ 8192
-  pub is : recordsRise mem base stride key n ≡ recordsRise mem at stride key (n + 1 - i)
+  pub is : recordsRise mem base stride n ≡ recordsRise mem at stride (n + 1 - i)
 
 -- at the first record none was looked at
-pub rise-start : (mem : List ℕ) (base stride key n : ℕ) → base + stride * n ≤ 8192 → RiseFrom mem base stride key n base 1
-rise-start mem base stride key n h = let e : n + 1 - 1 ≡ n = omega arith in record { some = omega arith; within = rw e h; is = rw e refl }
+pub rise-start : (mem : List ℕ) (base stride n : ℕ) → base + stride * n ≤ 8192 → RiseFrom mem base stride n base 1
+rise-start mem base stride n h = let e : n + 1 - 1 ≡ n = omega arith in record { some = omega arith; within = rw e h; is = rw e refl }
 
 -- two records and those behind them: the first is before the second, and the rest rises
 two-rise : (stride key m : ℕ) (l : List ℕ) → key ≤ stride
@@ -52,15 +52,15 @@ few-rise stride key zero l h = refl
 few-rise stride key (suc zero) l h = refl
 few-rise stride key (suc (suc m)) l h = absurd (omega arith)
 
-module _ {mem : List ℕ} {base stride key n at i : ℕ} (s : RiseFrom mem base stride key n at i) where
+module _ {mem : List ℕ} {base stride n at i : ℕ} (s : RiseFrom mem base stride n at i) where
   -- all have been looked at
-  pub rise-all : n ≤ i → true ≡ recordsRise mem base stride key n
+  pub rise-all : n ≤ i → true ≡ recordsRise mem base stride n
   unfolding recordsRise
-  rise-all h = sym (s .is ∙ few-rise stride key (n + 1 - i) (drop at mem) (omega arith))
+  rise-all h = sym (s .is ∙ few-rise stride stride (n + 1 - i) (drop at mem) (omega arith))
 
-  module _ (narrow : key ≤ stride) (l : i < n) where
+  module _ (l : i < n) where
     -- the next record stands in the words
-    pub next-room : at + stride + key ≤ 8192
+    pub next-room : at + stride + stride ≤ 8192
     next-room =
         let m : ℕ = n - 1 - i in
         let e : n + 1 - i ≡ suc (suc m) = omega arith in
@@ -72,19 +72,19 @@ module _ {mem : List ℕ} {base stride key n at i : ℕ} (s : RiseFrom mem base 
     next-small = omega (arith, next-room)
 
     -- what is left, by the next record
-    next-left : recordsRise mem at stride key (n + 1 - i) ≡ (beforeNext mem at stride key && recordsRise mem (at + stride) stride key (n + 1 - (i + 1)))
+    next-left : recordsRise mem at stride (n + 1 - i) ≡ (beforeNext mem at stride stride && recordsRise mem (at + stride) stride (n + 1 - (i + 1)))
     unfolding recordsRise beforeNext
     next-left =
         let m : ℕ = n - 1 - i in
         let e : n + 1 - i ≡ suc (suc m) = omega arith in
         let f : n + 1 - (i + 1) ≡ suc m = omega arith in
-        rw (e, f, two-rise stride key m (drop at mem) narrow, drop-drop stride at mem) refl
+        rw (e, f, two-rise stride stride m (drop at mem) (omega arith), drop-drop stride at mem) refl
 
-    module _ {b : Bool} (is : b ≡ beforeNext mem at stride key) where
+    module _ {b : Bool} (is : b ≡ beforeNext mem at stride stride) where
       -- it is behind: the loop goes on with it
-      pub rise-more : not b ≡ false → RiseFrom mem base stride key n (at + stride) (i + 1)
+      pub rise-more : not b ≡ false → RiseFrom mem base stride n (at + stride) (i + 1)
       rise-more h =
-          let t : beforeNext mem at stride key ≡ true = sym is ∙ not-false b h in
+          let t : beforeNext mem at stride stride ≡ true = sym is ∙ not-false b h in
           let e : n + 1 - i ≡ suc (n + 1 - (i + 1)) = omega arith in
           let w : at + stride * suc (n + 1 - (i + 1)) ≤ 8192 = rw e at (s .within) in
           record {
@@ -94,5 +94,5 @@ module _ {mem : List ℕ} {base stride key n at i : ℕ} (s : RiseFrom mem base 
           }
 
       -- it is not: they do not rise
-      pub rise-fails : not b ≡ true → false ≡ recordsRise mem base stride key n
-      rise-fails h = let t : beforeNext mem at stride key ≡ false = sym is ∙ not-true b h in sym (s .is ∙ next-left ∙ rw t refl)
+      pub rise-fails : not b ≡ true → false ≡ recordsRise mem base stride n
+      rise-fails h = let t : beforeNext mem at stride stride ≡ false = sym is ∙ not-true b h in sym (s .is ∙ next-left ∙ rw t refl)

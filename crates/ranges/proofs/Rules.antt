@@ -43,7 +43,7 @@ module _ {mem : List ℕ} (t : Table mem) where
   -- a table breaks a rule by its assignments, its associations or its prohibitions alone
   rule-by-parts : breaksRule (policyOf mem)
       ≡ (not (allOf assignmentFits (policyOf mem .assignments)) || not (allOf associationFits (policyOf mem .associations))
-      || not (allOf prohibitionFits (policyOf mem .prohibitions)) || not (recordsRise mem 2776 2 2 (associationCount mem))
+      || not (allOf prohibitionFits (policyOf mem .prohibitions)) || not (recordsRise mem 2776 2 (associationCount mem))
       || not (rising prohibitionFields (policyOf mem .prohibitions)))
   unfolding breaksRule fieldsFit groupsRise
   rule-by-parts =
@@ -66,15 +66,15 @@ module _ {mem : List ℕ} (t : Table mem) where
         pub broken-prohibitions : not c ≡ true → true ≡ breaksRule (policyOf mem)
         broken-prohibitions h = sym (rule-by-parts ∙ rw (← assignments, ha, ← associations, hb, ← prohibitions, h) refl)
 
-        module _ (hc : not c ≡ false) {n : ℕ} (count : n ≡ associationCount mem) {d : Bool} (order : d ≡ recordsRise mem 2776 2 2 n) where
+        module _ (hc : not c ≡ false) {n : ℕ} (count : n ≡ associationCount mem) {d : Bool} (order : d ≡ recordsRise mem 2776 2 n) where
           -- the associations do not rise
           pub broken-order : not d ≡ true → true ≡ breaksRule (policyOf mem)
           broken-order h =
-              let o : d ≡ recordsRise mem 2776 2 2 (associationCount mem) = rw count at order in
+              let o : d ≡ recordsRise mem 2776 2 (associationCount mem) = rw count at order in
               sym (rule-by-parts ∙ rw (← assignments, ha, ← associations, hb, ← prohibitions, hc, ← o, h) refl)
 
           -- they do: the order of the prohibitions decides
           pub order-decides : not d ≡ false → {e : Bool} → e ≡ rising prohibitionFields (policyOf mem .prohibitions) → not e ≡ breaksRule (policyOf mem)
           order-decides hd last =
-              let o : d ≡ recordsRise mem 2776 2 2 (associationCount mem) = rw count at order in
+              let o : d ≡ recordsRise mem 2776 2 (associationCount mem) = rw count at order in
               sym (rule-by-parts ∙ rw (← assignments, ha, ← associations, hb, ← prohibitions, hc, ← o, hd, ← last) refl)

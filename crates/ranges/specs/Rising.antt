@@ -11,6 +11,6 @@ use Rattle.group.specs.Group.{records}
 unfoldable pub beforeNext : (mem : List ℕ) (at stride key : ℕ) → Bool
 beforeNext mem at stride key = before (take key (drop at mem)) (take key (drop (at + stride) mem))
 
--- the n records of `stride` words each from `base` on strictly rise, by the first `key` words of each
-unfoldable pub recordsRise : (mem : List ℕ) (base stride key n : ℕ) → Bool
-recordsRise mem base stride key n = rising (take key) (records stride n (drop base mem))
+-- the n records of `stride` words each from `base` on strictly rise
+unfoldable pub recordsRise : (mem : List ℕ) (base stride n : ℕ) → Bool
+recordsRise mem base stride n = rising (take stride) (records stride n (drop base mem))

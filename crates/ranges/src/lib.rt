@@ -29,17 +29,16 @@ fn is_before_next(mem: &[u32], at: usize, stride: usize, key: usize) -> bool
     group::place(mem, at + stride, 1, &mem[at..at + key]) == 0
 }
 
-// Whether the n records from `base` on strictly rise, by the first `key` words of each.
-fn are_rising(mem: &[u32], base: usize, stride: usize, key: usize, n: usize) -> bool
+// Whether the n records of `stride` words from `base` on strictly rise.
+fn are_rising(mem: &[u32], base: usize, stride: usize, n: usize) -> bool
     requires { ⌜ length (now mem) ≡ 8192 ⌝ }
     requires { ⌜ base + stride * n ≤ 8192 ⌝ }
-    requires { ⌜ key ≤ stride ⌝ }
-    ensures { λ r. ⌜ r ≡ recordsRise (now (mem .entry)) base stride key n ⌝ }
+    ensures { λ r. ⌜ r ≡ recordsRise (now (mem .entry)) base stride n ⌝ }
 {
     let mut at = base;
     let mut i = 1;
     while i < n {
-        if !is_before_next(mem, at, stride, key) {
+        if !is_before_next(mem, at, stride, stride) {
             return false;
         }
         at += stride;
@@ -198,7 +197,6 @@ pub fn breaks_rule(mem: &[u32]) -> bool
     if !are_rising(
         mem,
         ASSOCIATIONS,
-        ASSOCIATION,
         ASSOCIATION,
         table::association_count(mem),
     ) {

@@ -50,7 +50,7 @@ pub storable-narrow : {b : Prohibition} → Storable b → Narrow b
 storable-narrow s = record { low-subject = s .low-subject; low-form = omega (arith, s .low-form); few-inclusions = s .few-inclusions; few-exclusions = s .few-exclusions }
 
 -- and of one that a record with short lists is
-pub short-narrow : {r : List ℕ} → ShortLists r 0 → Narrow (prohibitionIn r)
+short-narrow : {r : List ℕ} → ShortLists r 0 → Narrow (prohibitionIn r)
 short-narrow {r} y = record {
   low-subject = omega arith;
   low-form = omega arith;
@@ -111,7 +111,7 @@ pub front-counted : (b : Prohibition) → length (prohibitionFront b) ≡ 3 + le
 front-counted b = omega (arith, length-front b, length-append (b .inclusion) (b .exclusion))
 
 -- which is at most eleven
-pub front-few : {b : Prohibition} → Narrow b → length (prohibitionFront b) ≤ 11
+front-few : {b : Prohibition} → Narrow b → length (prohibitionFront b) ≤ 11
 front-few {b} u = omega (arith, front-counted b, u .few-inclusions, u .few-exclusions)
 
 -- a record is the words that count, and zeros
@@ -185,7 +185,7 @@ words-packed w s c l a b n m e =
     ap₂ _∷_ first (ap (λ (t : List ℕ). s ∷ t) (ap₂ _∷_ counts e))
 
 -- the first words of a record, as many as its counts say, are those that count of the prohibition that it is
-pub front-of : (r : List ℕ) → length r ≡ 11 → ShortLists r 0 → take (3 + (inclusionCount r 0 + exclusionCount r 0)) r ≡ prohibitionFront (prohibitionIn r)
+front-of : (r : List ℕ) → length r ≡ 11 → ShortLists r 0 → take (3 + (inclusionCount r 0 + exclusionCount r 0)) r ≡ prohibitionFront (prohibitionIn r)
 unfolding prohibitionFront
 front-of [] e y = absurd (omega arith)
 front-of (w ∷ []) e y = absurd (omega arith)

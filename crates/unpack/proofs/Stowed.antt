@@ -75,11 +75,6 @@ module _ (p : Policy) (h : stowable p ≡ true) where
   unfolding withAssociations
   second-length = length-layer associationRecord 2776 2 (p .associations) (ids p) (omega (arith, first-table .size, association-words)) ∙ first-table .size
 
-  -- with the prohibitions too
-  third-length : length (third p) ≡ 8192
-  unfolding withProhibitions
-  third-length = length-layer prohibitionRecord 5776 3 (p .prohibitions) (second p) (omega (arith, second-length, prohibition-words)) ∙ second-length
-
   -- the assignments may be laid last
   last-laid : tableOf p ≡ withAssignments (p .assignments) (third p)
   unfolding tableOf withAssignments withAssociations withProhibitions

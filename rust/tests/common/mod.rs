@@ -586,12 +586,24 @@ fn spoil(random: &mut Random, words: &mut [u32]) {
     }
 }
 
+/// The words of a table with zeros in the places of prohibitions that no id takes.
+fn counting(words: &[u32]) -> Vec<u32> {
+    let mut counting = words.to_vec();
+    words::PROHIBITIONS.fill_places(&mut counting, || 0);
+    counting
+}
+
 /// Memory that no call leaves: a table with other numbers in some words. It holds no table, or one of a policy that may be unsound.
 pub fn memory_round(random: &mut Random, size: Size, cases: u32, seen: &mut Seen) {
     let sound = words_of(&make::policy(random, size));
     for _ in 0..cases {
         let mut words = sound.clone();
-        spoil(random, &mut words);
+        if random.chance(40) {
+            words::PROHIBITIONS.fill_places(&mut words, || random.bits() as u32);
+        }
+        if random.chance(60) {
+            spoil(random, &mut words);
+        }
         let mut index = make::foreign_index(random);
         if !words::holds_table(&words) {
             is_no_table(&mut words, &mut index, random);
@@ -615,10 +627,10 @@ pub fn memory_round(random: &mut Random, size: Size, cases: u32, seen: &mut Seen
         assert_eq!(calls::build_index(&words, &mut index), Ok(()));
         assert!(index == second::build_index(policy));
         assert_eq!(calls::is_index(&words, &index), Ok(true));
-        // commands, where the words are those by which the second program writes the policy
+        // commands, where the words that count are those by which the second program writes the policy
         let mut written = words.clone();
         words::write(policy, &mut written);
-        if written == words && by_index {
+        if written == counting(&words) && by_index {
             for _ in 0..4 {
                 let command = some_command(random, policy);
                 let mut machine = Machine { policy: policy.clone(), index: index.clone() };
@@ -626,7 +638,8 @@ pub fn memory_round(random: &mut Random, size: Size, cases: u32, seen: &mut Seen
                 let expected = machine.run(&command);
                 assert_eq!(run_lent(&mut after, &mut index, &command), expected, "{command:?}");
                 words::write(&machine.policy, &mut written);
-                assert!(after == written && index == machine.index, "{command:?}");
+                assert!(counting(&after) == written && index == machine.index, "{command:?}");
+                assert!(expected.is_ok() || after == words, "{command:?}");
                 written.copy_from_slice(&words);
             }
             seen.note("table and commands".to_string());

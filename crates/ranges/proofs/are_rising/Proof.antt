@@ -9,10 +9,10 @@ use Rattle.ranges.proofs.are_rising.Lts as lts
 use Rattle.ranges.proofs.is_before_next.Reads as is-before-next-reads
 
 abbrev Inv-loop : tie.InvT-loop
-Inv-loop mem base stride key n at₀ i₀ at i = RiseFrom mem base stride key n at i
+Inv-loop mem base stride n at₀ i₀ at i = RiseFrom mem base stride n at i
 
 abbrev μ-loop : tie.MeasureT-loop
-μ-loop mem base stride key n at₀ i₀ at i = n - i
+μ-loop mem base stride n at₀ i₀ at i = n - i
 
 loop-holds : tie.Need-loop-holds Inv-loop μ-loop
 loop-holds c = search rise-start
