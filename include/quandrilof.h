@@ -25,31 +25,42 @@
 extern "C" {
 #endif
 
-/* Sizes. */
+/* Sizes and limits. */
 enum {
-    QD_TABLE_WORDS = 8192,  /* words of 32 bits of a table */
-    QD_INDEX_BYTES = 32768, /* bytes of an index */
-    QD_IMAGE_MOST = 15115,  /* no table's image has more bytes */
-    QD_ROWS_MOST = 1533,    /* no explanation has more rows; a deny has at most two */
-    QD_ELEMENT_MOST = 511,  /* elements are 1 to 511 */
-    QD_PROCESS_MOST = 255,  /* processes are 1 to 255 */
-    QD_LIST_MOST = 4        /* a prohibition lists at most four inclusions and four exclusions */
+    QD_TABLE_WORDS = 8192,       /* words of 32 bits of a table */
+    QD_INDEX_BYTES = 32768,      /* bytes of an index */
+    QD_IMAGE_MOST = 15115,       /* no table's image has more bytes */
+    QD_ROWS_MOST = 1533,         /* no explanation has more rows; a deny has at most two */
+    QD_ELEMENT_MOST = 511,       /* elements are 1 to 511 */
+    QD_PROCESS_MOST = 255,       /* processes are 1 to 255 */
+    QD_ASSIGNMENTS_MOST = 2000,  /* a table holds no more assignments, */
+    QD_ASSOCIATIONS_MOST = 1000, /* no more associations, */
+    QD_PROHIBITIONS_MOST = 200,  /* and no more prohibitions: one more is refused with 10 */
+    QD_LIST_MOST = 4             /* a prohibition lists at most four inclusions and four exclusions */
 };
 
-/* Kinds of elements. */
+/* x is within y if x is y or a chain of assignments leads from x to y. The classes of an element are the classes that it is within. A user holds a
+ * right over an element if the element has a class and, for each of its classes, some association has the user within its attribute, the right in
+ * its set, the element within its target, and its target within that class. A request is granted if of one alternative of the operation each right
+ * is held over its argument, and no prohibition restricts it. */
+
+/* Kinds of elements. Objects count as attributes too: "attribute" alone means kinds 2, 3 and 4. What may be assigned to what: a user to a user
+ * attribute; a user attribute to a user attribute or a class; an object or object attribute to an object attribute or a class. Every element but a
+ * class has at least one assignment. */
 enum { QD_USER = 1, QD_USER_ATTRIBUTE = 2, QD_OBJECT = 3, QD_OBJECT_ATTRIBUTE = 4, QD_CLASS = 5 };
 
-/* Operations, with their arguments. Arguments that an operation does not use must be 0. */
+/* Operations, with their arguments and the rights that are asked, a set for each argument; behind "or" the second alternative. Arguments that an
+ * operation does not use must be 0. */
 enum {
-    QD_READ = 1,     /* object */
-    QD_WRITE = 2,    /* object */
-    QD_FIND = 3,     /* object */
-    QD_PRINT = 4,    /* object */
-    QD_MOVE = 5,     /* object, object attribute, object attribute */
-    QD_COPY = 6,     /* object, object attribute */
-    QD_ASSIGN = 7,   /* two elements, no class */
-    QD_DEASSIGN = 8, /* two elements, no class */
-    QD_ASSOCIATE = 9 /* user attribute, attribute */
+    QD_READ = 1,     /* object: {0} */
+    QD_WRITE = 2,    /* object: {1} */
+    QD_FIND = 3,     /* object: {2} or {0} */
+    QD_PRINT = 4,    /* object: {0, 3} */
+    QD_MOVE = 5,     /* object, object attribute, object attribute: {4}, {5}, {6} or {1}, {5}, {6} */
+    QD_COPY = 6,     /* object, object attribute: {0}, {6} or {3}, {1} */
+    QD_ASSIGN = 7,   /* two elements, no class: {7}, {8} */
+    QD_DEASSIGN = 8, /* two elements, no class: {9}, {10} */
+    QD_ASSOCIATE = 9 /* user attribute, attribute: {11}, {12} */
 };
 
 /* Rights, 0 to 31, are the bits of a right set: right r is the bit UINT32_C(1) << r. Those without a name are spare. */
@@ -69,7 +80,9 @@ enum {
     QD_RIGHT_ASSOC_TO = 12
 };
 
-/* Sorts of a prohibition's subject, and its forms. */
+/* Sorts of a prohibition's subject (one user, one process, all users within a user attribute), and its forms. The range of a disjunctive one: what
+ * is within some inclusion or outside some exclusion. Of a conjunctive one: what is within every inclusion and outside every exclusion; an empty
+ * list limits nothing. No class is in a range. */
 enum { QD_BY_USER = 1, QD_BY_PROCESS = 2, QD_BY_USER_ATTRIBUTE = 3 };
 enum { QD_DISJUNCTIVE = 0, QD_CONJUNCTIVE = 1 };
 
@@ -91,8 +104,8 @@ enum {
     QD_IMAGE_NAMES = 14   /* the image names something unknown, a wrong kind or pairing, a cycle, or an unassigned element */
 };
 
-/* Of qd_is_index, qd_contains, the decisions and the upper half of qd_explain: an answer above QD_REFUSED is a refusal, its number is the answer minus
- * QD_REFUSED. A refusal is not zero: test == 1 or == 2, never for truth. */
+/* Of qd_is_index, qd_contains, the decisions and the upper half of qd_explain: an answer above QD_REFUSED is a refusal, its number is the answer
+ * minus QD_REFUSED. A refusal is not zero: test == 1 or == 2, never for truth. */
 enum { QD_REFUSED = 16 };
 
 /* Makes the memory an empty table, whatever it held. Answers 0, or 1 where it has another length than QD_TABLE_WORDS. */
@@ -154,7 +167,7 @@ uint64_t qd_explain(const uint32_t *table, size_t words, uint32_t process, uint3
 /* Creates a policy class. Refusals: 1, 2, 3. */
 uint32_t qd_create_class(uint32_t *table, size_t words, uint8_t *index, size_t bytes, uint32_t id);
 
-/* Creates an element of kind 1 to 4 with its first assignment. Refusals: 1, 2, 3, 4, 5, 10. */
+/* Creates an element of kind 1 to 4 with its first assignment, to the container. Refusals: 1, 2, 3, 4, 5, 10. */
 uint32_t qd_create_element(uint32_t *table, size_t words, uint8_t *index, size_t bytes, uint32_t id, uint32_t kind, uint32_t container);
 
 /* Assigns the child to the container. Refusals: 1, 2, 3, 4, 5, 7, 10. */
@@ -166,14 +179,17 @@ uint32_t qd_deassign(uint32_t *table, size_t words, uint8_t *index, size_t bytes
 /* Deletes an element with its own assignments. Refusals: 1, 2, 4, 9. */
 uint32_t qd_delete_element(uint32_t *table, size_t words, uint8_t *index, size_t bytes, uint32_t id);
 
-/* Creates an association: users within the attribute get the rights over what is within the target. Refusals: 1, 2, 3, 4, 5, 6, 10. */
+/* Creates an association: it gives users within the user attribute the rights over what is within the target (a user attribute, an object or an
+ * object attribute), in the classes that the target is within. A right is held only where it is given in each class of the element. Refusals: 1, 2,
+ * 3, 4, 5, 6, 10. */
 uint32_t qd_create_association(uint32_t *table, size_t words, uint8_t *index, size_t bytes, uint32_t attribute, uint32_t rights, uint32_t target);
 
 /* Deletes an association, by its exact triple. Refusals: 1, 2, 4, 5, 6. */
 uint32_t qd_delete_association(uint32_t *table, size_t words, uint8_t *index, size_t bytes, uint32_t attribute, uint32_t rights, uint32_t target);
 
-/* Creates a prohibition. The lists may be of any length; more than four ids are refused with 6, after 2, 4 and 5 were judged over all of them. An
- * empty list: any pointer but NULL, and 0. Refusals: 1, 2, 3, 4, 5, 6, 10. */
+/* Creates a prohibition: the subject is denied these rights over the elements of its range, whatever associations give. Each list names attributes,
+ * strictly rising. It may be of any length; more than four ids are refused with 6, after 2, 4 and 5 were judged over all of them. An empty list:
+ * any pointer but NULL, and 0. Refusals: 1, 2, 3, 4, 5, 6, 10. */
 uint32_t qd_create_prohibition(uint32_t *table, size_t words, uint8_t *index, size_t bytes, uint32_t sort, uint32_t subject, uint32_t form,
                                uint32_t rights, const uint32_t *inclusions, size_t inclusion_count, const uint32_t *exclusions,
                                size_t exclusion_count);

@@ -7,16 +7,17 @@ use quandrilof::{calls, Refusal, Request, Row, IMAGE_MOST, INDEX_BYTES, ROWS_MOS
 use second::command::{GivenProhibition, COMMAND_NAMES};
 use second::make::{foreign_index, Random};
 use second::words::{holds_table, Group, ASSIGNMENTS, ASSOCIATIONS, KINDS, PROHIBITIONS, USERS};
-use second::{Answer, Command, Machine, Policy, Prohibition};
+use second::{lent, Answer, Command, Machine, Policy, Prohibition};
 use std::hint::black_box;
 
-/// Time per call in nanoseconds. The second program answers from its sets; `judging` is the time in which it tells of the lent words
-/// that they hold a table, 0 for load, which asks their length and no more.
+/// Time per call in nanoseconds. `lent` is the second program lent the same words, `kept` the same from sets that it keeps, `judging`
+/// the time in which it tells of the words that they hold a table, 0 for load, which asks their length and no more.
 pub struct Line {
     pub call: String,
     pub case: String,
     pub proved: f64,
-    pub second: f64,
+    pub lent: f64,
+    pub kept: f64,
     pub judging: f64,
     pub c: Option<f64>,
 }
@@ -120,15 +121,22 @@ impl Subject {
                 let (process, operation, arguments) = numbers(request);
                 let told = answer(calls::decide(words, request));
                 assert_eq!(told, second::decide(policy, process, operation, arguments), "{request:?}");
+                assert_eq!(told, lent::decide(words, process, operation, arguments), "{request:?}");
             }
             let proved = || each(&asked.requests, |request| calls::decide(words, request).is_ok());
-            let second = || {
+            let lent = || {
+                each(&asked.requests, |request| {
+                    let (process, operation, arguments) = numbers(request);
+                    lent::decide(words, process, operation, arguments) == Answer::Deny
+                })
+            };
+            let kept = || {
                 each(&asked.requests, |request| {
                     let (process, operation, arguments) = numbers(request);
                     second::decide(policy, process, operation, arguments) == Answer::Deny
                 })
             };
-            let times = least([call(proved), call(second), judging(words)]);
+            let times = least([call(proved), call(lent), call(kept), judging(words)]);
             lines.push(line("decide", &asked.case, asked.requests.len(), times));
         }
         lines
@@ -142,20 +150,28 @@ impl Subject {
                 let (process, operation, arguments) = numbers(request);
                 let told = answer(calls::decide_indexed(words, index, request));
                 assert_eq!(told, second::decide_indexed(policy, index, process, operation, arguments));
+                assert_eq!(told, lent::decide_indexed(words, index, process, operation, arguments));
                 assert_eq!(told, answer_in_c(words, index, request), "in C: {request:?}");
             }
             let proved =
                 || each(&asked.requests, |request| calls::decide_indexed(words, index, request).is_ok());
-            let second = || {
+            let lent = || {
+                each(&asked.requests, |request| {
+                    let (process, operation, arguments) = numbers(request);
+                    lent::decide_indexed(words, index, process, operation, arguments) == Answer::Deny
+                })
+            };
+            let kept = || {
                 each(&asked.requests, |request| {
                     let (process, operation, arguments) = numbers(request);
                     second::decide_indexed(policy, index, process, operation, arguments) == Answer::Deny
                 })
             };
             let c = || each(&asked.requests, |request| decide_in_c(words, index, request));
-            let [proved, second, judging, c] = least([call(proved), call(second), judging(words), call(c)]);
+            let [proved, lent, kept, judging, c] =
+                least([call(proved), call(lent), call(kept), judging(words), call(c)]);
             let count = asked.requests.len();
-            let measured = line("decide-indexed", &asked.case, count, [proved, second, judging]);
+            let measured = line("decide-indexed", &asked.case, count, [proved, lent, kept, judging]);
             lines.push(Line { c: Some(c / count as f64), ..measured });
         }
         lines
@@ -164,20 +180,30 @@ impl Subject {
     fn explain(&self) -> Vec<Line> {
         let Subject { policy, memory: Memory { words, .. } } = self;
         let mut rows = vec![Row::default(); ROWS_MOST];
-        let mut others = vec![second::Row::default(); ROWS_MOST];
+        let [mut lent_rows, mut kept_rows] = [0; 2].map(|_| vec![second::Row::default(); ROWS_MOST]);
         let mut lines = Vec::new();
         for asked in requests(policy, &self.memory) {
             for request in &asked.requests {
                 self.compare_explained(request, &mut rows);
+                let (process, operation, arguments) = numbers(request);
+                let told = second::explain_into(policy, process, operation, arguments, &mut kept_rows);
+                assert_eq!(lent::explain(words, process, operation, arguments, &mut lent_rows), told);
+                assert_eq!(lent_rows[..told.1], kept_rows[..told.1], "{request:?}");
             }
             let proved = || each(&asked.requests, |request| explained(words, request, &mut rows).1);
-            let second = || {
+            let lent = || {
                 each(&asked.requests, |request| {
                     let (process, operation, arguments) = numbers(request);
-                    second::explain_into(policy, process, operation, arguments, &mut others).1
+                    lent::explain(words, process, operation, arguments, &mut lent_rows).1
                 })
             };
-            let times = least([call(proved), call(second), judging(words)]);
+            let kept = || {
+                each(&asked.requests, |request| {
+                    let (process, operation, arguments) = numbers(request);
+                    second::explain_into(policy, process, operation, arguments, &mut kept_rows).1
+                })
+            };
+            let times = least([call(proved), call(lent), call(kept), judging(words)]);
             lines.push(line("explain", &asked.case, asked.requests.len(), times));
         }
         lines
@@ -190,28 +216,32 @@ impl Subject {
             for (x, y) in &pairs {
                 let told = calls::contains(words, *x, *y).map_err(Refusal::number);
                 assert_eq!(told, second::contains(policy, *x, *y), "{x} in {y}");
+                assert_eq!(told, lent::contains(words, *x, *y), "{x} in {y}");
             }
             let proved = || each(&pairs, |(x, y)| calls::contains(words, *x, *y).is_ok());
-            let second = || each(&pairs, |(x, y)| second::contains(policy, *x, *y).is_ok());
-            let times = least([call(proved), call(second), judging(words)]);
+            let lent = || each(&pairs, |(x, y)| lent::contains(words, *x, *y).is_ok());
+            let kept = || each(&pairs, |(x, y)| second::contains(policy, *x, *y).is_ok());
+            let times = least([call(proved), call(lent), call(kept), judging(words)]);
             lines.push(line("contains", &case, pairs.len(), times));
         }
         lines
     }
 
     fn load(&self) -> Vec<Line> {
-        let mut words = vec![1; self.memory.words.len()];
+        let [mut words, mut others] = [0; 2].map(|_| vec![1; self.memory.words.len()]);
         let mut lines = Vec::new();
         for (case, image) in images(&self.policy) {
             let told = calls::load(&mut words, &image).map_err(Refusal::number);
             let loaded = second::load(&image);
             assert_eq!(told, loaded.as_ref().map(|_| ()).map_err(|number| *number), "{case}");
-            assert_eq!(words, self.memory.words, "{case}");
+            assert_eq!(told, lent::load(&mut others, &image), "{case}");
+            assert!(words == self.memory.words && others == words, "{case}");
             assert!(loaded.is_ok_and(|policy| policy == self.policy) == (case == "accepted"), "{case}");
             let proved = || _ = black_box(calls::load(black_box(&mut words), black_box(&image)));
-            let second = || _ = black_box(second::load(black_box(&image)));
-            let [proved, second] = least([call(proved), call(second)]);
-            lines.push(line("load", case, 1, [proved, second, 0.0]));
+            let lent = || _ = black_box(lent::load(black_box(&mut others), black_box(&image)));
+            let kept = || _ = black_box(second::load(black_box(&image)));
+            let [proved, lent, kept] = least([call(proved), call(lent), call(kept)]);
+            lines.push(line("load", case, 1, [proved, lent, kept, 0.0]));
         }
         lines
     }
@@ -221,26 +251,32 @@ impl Subject {
         let mut lines = Vec::new();
         let length = second::save(policy).len();
         for (case, room) in [("done", IMAGE_MOST), ("refused 10", length - 1)] {
-            let (mut out, mut other) = (vec![0; room], vec![0; room]);
+            let [mut out, mut lent_out, mut kept_out] = [0; 3].map(|_| vec![0; room]);
             let told = calls::save(words, &mut out).map_err(Refusal::number);
-            assert_eq!(told, second::save_into(policy, &mut other), "{case}");
-            assert_eq!(out, other, "{case}");
+            assert_eq!(told, lent::save(words, &mut lent_out), "{case}");
+            assert_eq!(told, second::save_into(policy, &mut kept_out), "{case}");
+            assert!(out == lent_out && out == kept_out, "{case}");
             let proved = || _ = black_box(calls::save(black_box(words), black_box(&mut out)));
-            let second = || _ = black_box(second::save_into(black_box(policy), black_box(&mut other)));
-            lines.push(line("save", case, 1, least([call(proved), call(second), judging(words)])));
+            let lent = || _ = black_box(lent::save(black_box(words), black_box(&mut lent_out)));
+            let kept = || _ = black_box(second::save_into(black_box(policy), black_box(&mut kept_out)));
+            let times = least([call(proved), call(lent), call(kept), judging(words)]);
+            lines.push(line("save", case, 1, times));
         }
         lines
     }
 
     fn build_index(&self) -> Vec<Line> {
         let Subject { policy, memory: Memory { words, index } } = self;
-        let (mut built, mut other) = (vec![1; index.len()], vec![1; index.len()]);
+        let [mut built, mut lent_index, mut kept_index] = [0; 3].map(|_| vec![1; index.len()]);
         calls::build_index(words, &mut built).expect("a table");
-        second::build_index_into(policy, &mut other).expect("an index of its length");
-        assert_eq!(built, other);
+        lent::build_index(words, &mut lent_index).expect("a table");
+        second::build_index_into(policy, &mut kept_index).expect("an index of its length");
+        assert!(built == lent_index && built == kept_index);
         let proved = || _ = black_box(calls::build_index(black_box(words), black_box(&mut built)));
-        let second = || _ = black_box(second::build_index_into(black_box(policy), black_box(&mut other)));
-        vec![line("build-index", "done", 1, least([call(proved), call(second), judging(words)]))]
+        let lent = || _ = black_box(lent::build_index(black_box(words), black_box(&mut lent_index)));
+        let kept = || _ = black_box(second::build_index_into(black_box(policy), black_box(&mut kept_index)));
+        let times = least([call(proved), call(lent), call(kept), judging(words)]);
+        vec![line("build-index", "done", 1, times)]
     }
 
     fn is_index(&self) -> Vec<Line> {
@@ -251,9 +287,12 @@ impl Subject {
         for (case, index) in [("yes", index), ("no", &other)] {
             let told = calls::is_index(words, index).map_err(Refusal::number);
             assert_eq!(told, second::is_index(policy, index), "{case}");
+            assert_eq!(told, lent::is_index(words, index), "{case}");
             let proved = || _ = black_box(calls::is_index(black_box(words), black_box(index)));
-            let second = || _ = black_box(second::is_index(black_box(policy), black_box(index)));
-            lines.push(line("is-index", case, 1, least([call(proved), call(second), judging(words)])));
+            let lent = || _ = black_box(lent::is_index(black_box(words), black_box(index)));
+            let kept = || _ = black_box(second::is_index(black_box(policy), black_box(index)));
+            let times = least([call(proved), call(lent), call(kept), judging(words)]);
+            lines.push(line("is-index", case, 1, times));
         }
         lines
     }
@@ -297,11 +336,11 @@ fn spoil(words: &mut [u32], random: &mut Random, request: &Request) {
     }
 }
 
-/// A line: the times in which `count` calls are answered by the proved library and by the second program, and in which the latter
-/// judges the words once.
-fn line(call: &str, case: &str, count: usize, [proved, second, judging]: [f64; 3]) -> Line {
-    let (proved, second) = (proved / count as f64, second / count as f64);
-    Line { call: call.to_string(), case: case.to_string(), proved, second, judging, c: None }
+/// A line: the times in which `count` calls are answered by the proved library, by the second program lent words and from sets that it
+/// keeps, and in which it judges the words once.
+fn line(call: &str, case: &str, count: usize, [proved, lent, kept, judging]: [f64; 4]) -> Line {
+    let [proved, lent, kept] = [proved, lent, kept].map(|time| time / count as f64);
+    Line { call: call.to_string(), case: case.to_string(), proved, lent, kept, judging, c: None }
 }
 
 /// The second program tells that the words hold a table.
@@ -322,19 +361,23 @@ fn commanded_line(commanded: &Commanded) -> Line {
     let Commanded { case, before, command } = commanded;
     let mut memory = Memory::of(before);
     let start = memory.clone();
+    let mut other = start.clone();
     let mut machine = Machine::holding(before.clone());
     let told = memory.run(command);
     assert_eq!(told, machine.run(command), "{command:?}");
+    assert_eq!(told, lent::run(&mut other.words, &mut other.index, command), "{command:?}");
     let expected =
         case.strip_prefix("refused ").map_or(Ok(()), |number| Err(number.parse().expect("a number")));
     assert_eq!(told, expected, "{command:?}");
-    assert!(memory == Memory::of(&machine.policy), "{command:?}");
+    assert!(memory == Memory::of(&machine.policy) && memory == other, "{command:?}");
     assert!(memory.index == machine.index, "{command:?}");
     let name = name_of(command.number());
     if told.is_err() {
         let proved = || _ = black_box(memory.run(black_box(command)));
-        let second = || _ = black_box(machine.run(black_box(command)));
-        return line(&name, case, 1, least([call(proved), call(second), judging(&start.words)]));
+        let lent = || _ = black_box(lent::run(&mut other.words, &mut other.index, black_box(command)));
+        let kept = || _ = black_box(machine.run(black_box(command)));
+        let times = least([call(proved), call(lent), call(kept), judging(&start.words)]);
+        return line(&name, case, 1, times);
     }
     let (words, bytes) = (changed(&start.words, &memory.words), changed(&start.index, &memory.index));
     let put_back = |memory: &mut Memory| {
@@ -345,19 +388,27 @@ fn commanded_line(commanded: &Commanded) -> Line {
             .iter()
             .for_each(|range| memory.index[range.clone()].copy_from_slice(&start.index[range.clone()]));
     };
-    put_back(&mut memory);
-    assert!(memory == start, "{command:?}");
+    for memory in [&mut memory, &mut other] {
+        put_back(memory);
+        assert!(*memory == start, "{command:?}");
+    }
     undo(&mut machine.policy, before, command);
     assert_eq!(machine.policy, *before, "{command:?}");
     let proved = changing(&mut memory, |memory| _ = black_box(memory.run(black_box(command))), put_back);
-    let second = changing(
+    let lent = changing(
+        &mut other,
+        |other| _ = black_box(lent::run(&mut other.words, &mut other.index, black_box(command))),
+        put_back,
+    );
+    let kept = changing(
         &mut machine,
         |machine| _ = black_box(machine.run(black_box(command))),
         |machine| undo(&mut machine.policy, before, command),
     );
-    let [proved, second, judging, reading] = least([proved, second, judging(&start.words), reading()]);
-    assert!(memory == start && machine.policy == *before, "{command:?}");
-    line(&name, case, 1, [proved - reading, second - reading, judging])
+    let [proved, lent, kept, judging, reading] =
+        least([proved, lent, kept, judging(&start.words), reading()]);
+    assert!(memory == start && other == start && machine.policy == *before, "{command:?}");
+    line(&name, case, 1, [proved - reading, lent - reading, kept - reading, judging])
 }
 
 /// The ranges in which two lists differ.

@@ -12,11 +12,6 @@ pub struct Measured {
     pub lines: Vec<Line>,
 }
 
-/// The second program's time where it, too, is lent words and judges them first.
-fn judged(line: &Line) -> f64 {
-    line.judging + line.second
-}
-
 /// Nanoseconds, with as many places as are of use.
 fn time(time: f64) -> String {
     match time {
@@ -35,18 +30,30 @@ fn ratio(other: f64, proved: f64) -> String {
 /// The ratios of all tables, then the times of each.
 pub fn all(measured: &[Measured]) -> String {
     let mut text = String::new();
-    let lent =
-        "**Lent words.** The second program's time, and that of its own test of the lent words, which the \
-                proved call makes too, by the proved call's.";
+    let lent = "**Same inputs.** The second program is lent the same words and bytes: its time by the proved call's.";
     let kept = "**Kept sets.** The second program answers from sets that it keeps, and judges no memory: its time by \
                 the proved call's.";
-    ratios(&mut text, lent, measured, judged).expect("a string takes all");
-    text.push('\n');
-    ratios(&mut text, kept, measured, |line| line.second).expect("a string takes all");
+    ratios(&mut text, lent, measured, |line| line.lent).expect("a string takes all");
+    let judged = below(measured, |line| line.judging + line.kept);
+    writeln!(text, "\nThe same, counting of the second program's time its test of the words and its call alone: {judged}.\n")
+        .expect("a string takes all");
+    ratios(&mut text, kept, measured, |line| line.kept).expect("a string takes all");
     for one in measured {
         times(&mut text, one).expect("a string takes all");
     }
     text
+}
+
+/// In how many lines the proved call is slower, and where the ratio is least.
+fn below(measured: &[Measured], second: impl Fn(&Line) -> f64) -> String {
+    let lines = measured.iter().flat_map(|one| one.lines.iter().map(move |line| (one.table, line)));
+    let ratios: Vec<(f64, &str, &Line)> =
+        lines.map(|(table, line)| (second(line) / line.proved, table, line)).collect();
+    let slower = ratios.iter().filter(|(ratio, ..)| *ratio < 1.0).count();
+    let least = ratios.iter().min_by(|one, other| one.0.total_cmp(&other.0));
+    let (least, table, line) = least.expect("something was measured");
+    let Line { call, case, .. } = line;
+    format!("below 1 are {slower} of {}, the least is {least:.2}, {call} {case} on {table}", ratios.len())
 }
 
 /// The case without the number of a set, which differs from table to table.
@@ -73,22 +80,17 @@ fn ratios(
         }
     }
     rows.sort_by_key(|(call, _)| measured[0].lines.iter().position(|line| line.call == *call));
-    let (mut cells, mut slower) = (0, 0);
     for (call, case) in &rows {
         write!(text, "| {call} | {case} |")?;
         for one in measured {
             match one.lines.iter().find(|line| line.call == *call && case_of(line) == *case) {
-                Some(line) => {
-                    cells += 1;
-                    slower += usize::from(second(line) < line.proved);
-                    write!(text, " {} |", ratio(second(line), line.proved))?;
-                }
+                Some(line) => write!(text, " {} |", ratio(second(line), line.proved))?,
                 None => write!(text, " |")?,
             }
         }
         writeln!(text)?;
     }
-    writeln!(text, "\nBelow 1: {slower} of {cells}.")
+    writeln!(text, "\nOf these, {}.", below(measured, second))
 }
 
 fn times(text: &mut String, Measured { table, counts, lines }: &Measured) -> std::fmt::Result {
@@ -98,13 +100,13 @@ fn times(text: &mut String, Measured { table, counts, lines }: &Measured) -> std
         "\n**{table}**: {elements} elements, {assignments} assignments, {associations} associations, \
          {prohibitions} prohibitions, {processes} processes; nanoseconds a call.\n"
     )?;
-    writeln!(text, "| call | case | proved | second, lent words | by proved | second, kept sets | by proved | C | by proved |")?;
+    writeln!(text, "| call | case | proved | second, same inputs | by proved | second, kept sets | by proved | C | by proved |")?;
     writeln!(text, "|---|---|---:|---:|---:|---:|---:|---:|---:|")?;
     for line in lines {
-        let Line { call, case, proved, second, c, .. } = line;
+        let Line { call, case, proved, lent, kept, c, .. } = line;
         write!(text, "| {call} | {case} | {} |", time(*proved))?;
-        for other in [judged(line), *second] {
-            write!(text, " {} | {} |", time(other), ratio(other, *proved))?;
+        for other in [lent, kept] {
+            write!(text, " {} | {} |", time(*other), ratio(*other, *proved))?;
         }
         match c {
             Some(c) => writeln!(text, " {} | {} |", time(*c), ratio(*c, *proved))?,

@@ -174,7 +174,8 @@ pub fn delete_element(table: &mut [u32], index: &mut [u8], id: u32) -> Result<()
     })
 }
 
-/// Creates an association: users within the attribute get the rights over what is within the target. Refused with 1, 2, 3, 4, 5,
+/// Creates an association: it gives users within the user attribute the rights over what is within the target, in the classes that the
+/// target is within. A right is held only where it is given in each class of the element. Refused with 1, 2, 3, 4, 5,
 /// 6, 10.
 pub fn create_association(
     table: &mut [u32],

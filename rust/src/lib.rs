@@ -83,3 +83,9 @@ pub const ELEMENT_MOST: u32 = 511;
 pub const PROCESS_MOST: u32 = 255;
 /// A prohibition lists at most four inclusions and four exclusions.
 pub const LIST_MOST: usize = 4;
+/// A table holds at most so many assignments.
+pub const ASSIGNMENTS_MOST: usize = 2_000;
+/// At most so many associations.
+pub const ASSOCIATIONS_MOST: usize = 1_000;
+/// At most so many prohibitions.
+pub const PROHIBITIONS_MOST: usize = 200;

@@ -2,37 +2,37 @@
 
 /// Kinds of elements.
 pub mod kind {
-    /// A user.
+    /// A user, assigned to user attributes.
     pub const USER: u32 = 1;
-    /// A user attribute: users and user attributes are assigned to it.
+    /// A user attribute: users and user attributes are assigned to it, it to a user attribute or a class.
     pub const USER_ATTRIBUTE: u32 = 2;
-    /// An object. It counts as an attribute too.
+    /// An object, assigned to object attributes or classes. It counts as an attribute too.
     pub const OBJECT: u32 = 3;
-    /// An object attribute: objects and object attributes are assigned to it.
+    /// An object attribute: objects and object attributes are assigned to it, it to an object attribute or a class.
     pub const OBJECT_ATTRIBUTE: u32 = 4;
     /// A policy class.
     pub const CLASS: u32 = 5;
 }
 
-/// Operations, with their arguments.
+/// Operations, with their arguments and the rights that are asked, a set for each argument; behind "or" the second alternative.
 pub mod operation {
-    /// Object.
+    /// Object: {0}.
     pub const READ: u32 = 1;
-    /// Object.
+    /// Object: {1}.
     pub const WRITE: u32 = 2;
-    /// Object.
+    /// Object: {2} or {0}.
     pub const FIND: u32 = 3;
-    /// Object.
+    /// Object: {0, 3}.
     pub const PRINT: u32 = 4;
-    /// Object, object attribute, object attribute.
+    /// Object, object attribute, object attribute: {4}, {5}, {6} or {1}, {5}, {6}.
     pub const MOVE: u32 = 5;
-    /// Object, object attribute.
+    /// Object, object attribute: {0}, {6} or {3}, {1}.
     pub const COPY: u32 = 6;
-    /// Two elements that are no class.
+    /// Two elements that are no class: {7}, {8}.
     pub const ASSIGN: u32 = 7;
-    /// Two elements that are no class.
+    /// Two elements that are no class: {9}, {10}.
     pub const DEASSIGN: u32 = 8;
-    /// User attribute, attribute.
+    /// User attribute, attribute: {11}, {12}.
     pub const ASSOCIATE: u32 = 9;
 }
 
@@ -78,8 +78,8 @@ pub mod sort {
 
 /// Forms of a prohibition.
 pub mod form {
-    /// The range is what is within some inclusion or outside some exclusion.
+    /// The range is what is within some inclusion or outside some exclusion, but for classes.
     pub const DISJUNCTIVE: u32 = 0;
-    /// The range is what is within every inclusion and outside every exclusion.
+    /// The range is what is within every inclusion and outside every exclusion, but for classes; an empty list limits nothing.
     pub const CONJUNCTIVE: u32 = 1;
 }

@@ -111,7 +111,8 @@ impl Table {
         calls::delete_element(&mut self.words, &mut self.index, id)
     }
 
-    /// Creates an association: users within the attribute get the rights over what is within the target. Refused with 2, 3, 4, 5,
+    /// Creates an association: it gives users within the user attribute the rights over what is within the target, in the classes that the
+    /// target is within. A right is held only where it is given in each class of the element. Refused with 2, 3, 4, 5,
     /// 6, 10.
     pub fn create_association(&mut self, attribute: u32, rights: u32, target: u32) -> Result<(), Refusal> {
         calls::create_association(&mut self.words, &mut self.index, attribute, rights, target)

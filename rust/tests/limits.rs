@@ -4,7 +4,8 @@ mod common;
 
 use common::{ask, ask_indexed, load_into, same, save_into, step, table_of, words_of, Seen};
 use quandrilof::{
-    kind, operation, sort, Decision, Prohibition, Refusal, Request, Table, IMAGE_MOST, ROWS_MOST,
+    kind, operation, sort, Decision, Prohibition, Refusal, Request, Table, ASSIGNMENTS_MOST,
+    ASSOCIATIONS_MOST, IMAGE_MOST, PROHIBITIONS_MOST, ROWS_MOST,
 };
 use second::make::Random;
 use second::{Command, Machine, Policy};
@@ -198,6 +199,7 @@ fn the_longest_image() {
     let policy = largest();
     let image = second::save(&policy);
     assert_eq!((image.len(), IMAGE_MOST), (15_115, 15_115));
+    assert_eq!(policy.counts()[1..4], [ASSIGNMENTS_MOST, ASSOCIATIONS_MOST, PROHIBITIONS_MOST]);
     let table = table_of(&policy);
     assert_eq!(
         format!("{table:?}"),

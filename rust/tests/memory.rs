@@ -19,6 +19,9 @@ fn other_contents() {
         memory_round(random, size, 10, seen);
     });
     seen.expect("no table, table, table and commands");
+    // prohibitions whose free places hold other numbers are looked at, put beside, and taken out
+    let filled = "create prohibition on filled places, delete prohibition on filled places, end process on filled places";
+    seen.expect(filled);
 }
 
 #[test]

@@ -31,48 +31,21 @@
 //! On memory that holds no table `K`, `U`, `A`, `S`, `X`, `B`, `D`, `I`, `C` and `E` print `R 1`. Where a step before takes a
 //! number as the id of an element it takes its remainder by 512, of a process by 256. Any other letter does nothing.
 
-use crate::decide::{admit, decide, Answer, Containment, Rules};
+use crate::decide::{decide, Answer};
 use crate::explain::{explain_into, Row};
-use crate::index::{build_index_into, has_another_length};
-use crate::refusal::{ALREADY_THERE, NO_ROOM, OUT_OF_RANGE};
+use crate::index::build_index_into;
+use crate::lent::decide_by_bits;
+use crate::refusal::{ALREADY_THERE, NO_ROOM, NO_TABLE, OUT_OF_RANGE};
 use crate::words::{
     clear, holds_table, table, Group, Table, ASSIGNMENTS, ASSOCIATIONS, KINDS, PROHIBITIONS, USERS,
 };
 use std::hint::black_box;
 use std::rc::Rc;
 
-/// Refusal 1: the memory holds no table.
-const NO_TABLE: u32 = 1;
 /// As many words, bytes and rows there are to lend from.
 const ALL_WORDS: usize = 8_193;
 const ALL_BYTES: usize = 32_769;
 const ALL_ROWS: usize = 1_600;
-
-/// Containment from the bits of an index alone. Only words that no call of ours leaves name a y above 511: its
-/// bit is where 01's "Byte 64x + y/8, bit 7 - (y mod 8)" has it, 0 behind the last byte.
-struct Bits<'a> {
-    index: &'a [u8],
-    table: &'a Table,
-}
-
-impl Containment for Bits<'_> {
-    fn within(&self, x: u16, y: u16) -> bool {
-        let y = self.table.number(y);
-        let byte = self.index.get(64 * usize::from(x) + (y / 8) as usize);
-        byte.is_some_and(|byte| byte >> (7 - y % 8) & 1 == 1)
-    }
-}
-
-/// The decision with those bits read as containment.
-fn decide_by_bits(table: &Table, index: &[u8], process: u32, operation: u32, arguments: [u32; 3]) -> Answer {
-    if has_another_length(index) {
-        return Answer::Refused(OUT_OF_RANGE);
-    }
-    match admit(&table.policy, process, operation, arguments) {
-        Err(number) => Answer::Refused(number),
-        Ok(request) => Rules { policy: &table.policy, containment: &Bits { index, table } }.judge(&request),
-    }
-}
 
 /// Up to four ids, as the steps `J` and `X` list them.
 fn list(a: u32, b: u32, v: u32) -> Vec<u32> {

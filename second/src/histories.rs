@@ -52,14 +52,12 @@
 use crate::command::{run, Command, GivenProhibition};
 use crate::index::{build_index, INDEX_BYTES};
 use crate::policy::Policy;
-use crate::refusal::OUT_OF_RANGE;
+use crate::refusal::{NO_TABLE, OUT_OF_RANGE};
 use crate::words::{
     clear, holds_table, table, write, ASSIGNMENTS, ASSOCIATIONS, KINDS, PROHIBITIONS, USERS, WORDS,
 };
 use crate::year::Year;
 
-/// Refusal 1: the memory holds no table.
-const NO_TABLE: u32 = 1;
 /// As many words and bytes there are to lend from.
 const ALL_WORDS: usize = WORDS + 1;
 const ALL_BYTES: usize = INDEX_BYTES + 1;

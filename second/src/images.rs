@@ -34,12 +34,10 @@
 //! The state is two lines: `H`, the words 0 to 7 and the sum of the lent words; `R` and the sum of the lent bytes of the room. A sum
 //! begins at 0; with each number it becomes mix(sum, number) = sum * 1,103,515,245 + number + 12,345, cut to 32 bits.
 
-use crate::image::{load, LONGEST_IMAGE};
-use crate::refusal::NO_ROOM;
-use crate::words::{clear, holds_table, write, written, WORDS};
+use crate::image::LONGEST_IMAGE;
+use crate::lent;
+use crate::words::WORDS;
 
-/// Refusal 1: the memory holds no table.
-const NO_TABLE: u32 = 1;
 /// As many words and bytes there are to lend from, and as long an image can be.
 const ALL_WORDS: usize = WORDS + 1;
 const ROOM: usize = 16_384;
@@ -82,32 +80,17 @@ impl State {
 
     /// Loads these bytes: 0, or the refusal number.
     fn load(&mut self, image: &[u8]) -> u32 {
-        let words = self.words();
-        let answer = if words.len() == WORDS { load(image) } else { Err(NO_TABLE) };
-        let number = match answer {
-            Ok(policy) => {
-                clear(words);
-                write(&policy, words);
-                0
-            }
-            Err(number) => number,
-        };
+        let number = lent::load(self.words(), image).err().unwrap_or(0);
         self.tally[number as usize] += 1;
         number
     }
 
     /// Saves: 0 and the length, or the refusal number and 0.
     fn save(&mut self) -> (u32, u32) {
-        if !holds_table(self.words()) {
-            return (NO_TABLE, 0);
-        }
-        let image = written(self.words()).bytes();
-        match self.room().get_mut(..image.len()) {
-            Some(room) => {
-                room.copy_from_slice(&image);
-                (0, image.len() as u32)
-            }
-            None => (NO_ROOM, 0),
+        let State { words, room, lent: (words_lent, bytes_lent), .. } = self;
+        match lent::save(&words[..*words_lent], &mut room[..*bytes_lent]) {
+            Ok(length) => (0, length as u32),
+            Err(number) => (number, 0),
         }
     }
 
@@ -194,7 +177,7 @@ impl State {
                 self.printed.push_str(&format!("{}{length} ", letter(number)));
             }
             b'z' => {
-                let number = if clear(self.words()) { 0 } else { NO_TABLE };
+                let number = lent::new(self.words()).err().unwrap_or(0);
                 self.printed.push(letter(number));
             }
             b'K' => self.cuts(),

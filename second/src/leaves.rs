@@ -27,10 +27,8 @@
 use crate::index::{bit, build_index, is_index, INDEX_BYTES};
 use crate::make::Random;
 use crate::policy::{contains, Policy};
-use crate::refusal::{ALREADY_THERE, LENGTH, NO_ROOM, OUT_OF_RANGE};
+use crate::refusal::{ALREADY_THERE, LENGTH, NO_ROOM, NO_TABLE, OUT_OF_RANGE};
 
-/// Refusal 1: the memory holds no table.
-const NO_TABLE: u32 = 1;
 /// The bytes that bits are written into.
 const ROOM: usize = 64;
 

@@ -5,8 +5,8 @@
 //! assignments, one sentence of 01 after the other.
 //!
 //! Arguments of calls are `u32`, so that numbers out of range can be tried. A refusal is 01's number.
-//! Refusal 1 speaks of working memory; this program has none, so only `leaves`, `decisions`, `histories` and `images` give it, where a
-//! script says so: `words` reads memory as the project's pages publish it.
+//! Refusal 1 speaks of working memory; this program has none, so only what is lent words gives it: `lent`, and the scripts of `leaves`,
+//! `decisions`, `histories` and `images`. `words` reads memory as the project's pages publish it.
 
 pub mod command;
 pub mod decide;
@@ -22,6 +22,7 @@ pub mod images;
 mod images_script;
 pub mod index;
 pub mod leaves;
+pub mod lent;
 pub mod make;
 pub mod policy;
 pub mod script;
@@ -46,6 +47,8 @@ pub use script::decisions_script;
 
 /// 01, "Refusal numbers". The names are this program's own, the numbers are 01's.
 pub mod refusal {
+    /// The working memory holds no table, or has another length.
+    pub const NO_TABLE: u32 = 1;
     /// An id, kind, sort, form or operation out of range, an unused argument not 0, an index of another length.
     pub const OUT_OF_RANGE: u32 = 2;
     /// Id or relation already there.

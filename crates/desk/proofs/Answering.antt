@@ -1,9 +1,9 @@
--- What the line of a request is, return by return.
+-- What the line of a request is, and what the calls that answer requests print, return by return.
 -- Assumes nothing.
 use mathlib.Core.Path.{_≡_, sym, ap, _∙_}
 use mathlib.Core.Bool.{Bool, true, false, not}
 use mathlib.Core.List.{List, [], _∷_}
-use Prim.Native.Nat.{ℕ, _≤_, _<_}
+use Prim.Native.Nat.{ℕ, _*_, _/_, _≤_, _<_}
 use native.Mathlib.Omega.{arith}
 use borrow.Author.Tests.{eq-eqb, ne-eqb, lt-ltb, le-ltb, not-true, not-false}
 use lib.ListN.{length, take, replicate}
@@ -13,7 +13,7 @@ use Rattle.model.specs.Request.{requestLines, deny, verdict, decision}
 use Rattle.model.specs.Explain.{rows}
 use Rattle.model.specs.Bits.{bitsOf}
 use Rattle.model.specs.Calls.{decide, kept}
-use Rattle.model.specs.Desk.{line, denyLine, answerLine, requestIn, requestLine}
+use Rattle.model.specs.Desk.{line, denyLine, answerLine, requestIn, requestLine, requestsOf}
 use Rattle.model.proofs.Refusals.{accepted-none}
 use Rattle.model.proofs.Decisions.Answers.{explained-as-decided}
 use Rattle.model.proofs.Decisions.Rows.{deny-rows-few}
@@ -37,7 +37,7 @@ use Rattle.lines.specs.Typing.{Typed}
 use Rattle.desk.specs.declared.Printed.the-variants.{Length, Refused}
 use Rattle.desk.specs.Allows as allows
 use Rattle.desk.proofs.Front.{in-front}
-use Rattle.desk.specs.Printing.{firstLine, answering, told}
+use Rattle.desk.specs.Printing.{lineRoom, firstLine, answering, requestCount, answeringAll, told}
 
 -- two lent rows suffice for a deny, so that its explanation is a deny
 pub deny-explained : {mem : List ℕ} {q : Request} → Table mem → Accepted mem q → verdict (contained (policyOf mem)) (policyOf mem) (requestOf q) ≡ deny
@@ -149,3 +149,30 @@ module _ (mem s out : List ℕ) where
             → allows.answer mem s out (Length n) out′
         unfolding firstLine
         request-printed l w = line-printed (rw (ne-eqb (length s) 0 some, le-ltb (length s) 5 l) w)
+
+-- The call that answers all requests, on any memory, any bytes and any room.
+module _ (mem s out : List ℕ) where
+  -- the memory holds no table
+  pub all-no-table : {t : Bool} → t ≡ holdsTable mem → not t ≡ true → allows.answer-all mem s out (Refused 1) out
+  unfolding answeringAll told answer kept
+  all-no-table {t} e f = let n : holdsTable mem ≡ false = sym e ∙ not-true t f in rw n
+
+  module _ {n : ℕ} (count : n ≡ requestCount s) where
+    -- the lent bytes suffice
+    pub room-enough : n ≤ length out / 64 → lineRoom * requestCount s ≤ length out
+    room-enough h = omega arith
+
+    module _ {t : Bool} (e : t ≡ holdsTable mem) (f : not t ≡ false) where
+      -- they are too few
+      pub all-no-room : length out / 64 < n → allows.answer-all mem s out (Refused 10) out
+      unfolding answeringAll told answer kept
+      all-no-room h =
+          let k : holdsTable mem ≡ true = sym e ∙ not-false t f in
+          rw (k, lt-ltb (length out) (lineRoom * requestCount s) (omega arith))
+
+      -- the lines stand in front of the other bytes
+      pub lines-printed : n ≤ length out / 64 → {out′ : List ℕ} {k : ℕ} → Typed (requestsOf (policyOf mem) s) 0 out out′ k → allows.answer-all mem s out (Length k) out′
+      unfolding answeringAll told answer kept
+      lines-printed h w =
+          let k : holdsTable mem ≡ true = sym e ∙ not-false t f in
+          rw (k, le-ltb (length out) (lineRoom * requestCount s) (room-enough h), in-front w .0, in-front w .1)

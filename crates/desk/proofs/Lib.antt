@@ -4,6 +4,7 @@ pub mod Answering
 pub mod Opening
 pub mod Lengths
 pub mod Requests
+pub mod Lined
 pub mod Outputs
 pub mod Apart
 pub mod Results

@@ -1,4 +1,4 @@
--- What holds of any result of `answer` and of `begin` that its contract allows.
+-- What holds of any result of `answer`, `answer_all` and `begin` that its contract allows.
 -- Assumes nothing.
 use mathlib.Core.Path.{_≡_, refl, sym, ap, _∙_}
 use mathlib.Core.Bool.{true}
@@ -9,24 +9,26 @@ use borrow.Author.Tests.{eqb-true, not-false}
 use lib.Dec.{eqb}
 use lib.ListN.{length, take, drop}
 use lib.Seq.{take-append-seam}
-use Rattle.model.specs.Refusal.{First, None, past, Answer, refused, accepted, answer}
+use Rattle.model.specs.Refusal.{Line, First, None, past, Answer, refused, accepted, answer}
 use Rattle.model.specs.Calls.{Saving, kept, over}
+use Rattle.model.specs.Desk.{requestsOf}
 use Rattle.model.proofs.Refusals.{first-refused, none-accepted, refused-first, accepted-none}
 use Rattle.table.specs.Layout.{wordCount}
 use Rattle.table.specs.View.{holdsTable, policyOf}
 use Rattle.table.proofs.Outcomes.{never}
+use Rattle.policy.specs.Claims.{Refuses}
 use Rattle.desk.specs.declared.Printed.{Printed}
 use Rattle.desk.specs.declared.Printed.the-variants.{Length, Refused}
 use Rattle.desk.specs.declared.Opened.{Opened}
 use Rattle.desk.specs.declared.Opened.the-variants as opened
-use Rattle.desk.specs.Printing.{firstLine, answerLines, answering, told, imageLength, imageAnswer, Begun, requests-follow, nothing-more, headLine, begun, wordsIn, beginLines, Beginning, beginning, toldBegun}
+use Rattle.desk.specs.Printing.{firstLine, answerLines, printing, answering, answerAllLines, answeringAll, told, left, imageLength, imageAnswer, Begun, requests-follow, nothing-more, headLine, begun, wordsIn, beginLines, Beginning, beginning, toldBegun}
 use Rattle.desk.specs.Allows as allows
 use Rattle.desk.specs.Claims.{Begins}
 use Rattle.desk.proofs.Reading.{enough}
-use Rattle.desk.proofs.Lengths.{first-short, head-short}
+use Rattle.desk.proofs.Lengths.{head-short}
 use Rattle.desk.proofs.Outputs.{accepted-whole, accepted-table}
 
--- a result of `answer` is known by what it says
+-- a result of `answer` or `answer_all` is known by what it says
 pub one-printed : (r s : Printed) → told r ≡ told s → r ≡ s
 unfolding told
 one-printed (Length m) (Length n) e = let z : m ≡ n = cc in ap Length z
@@ -47,58 +49,66 @@ one-opened (opened.Refused m) (opened.Open n j) e = never (cc)
 one-opened (opened.Refused m) (opened.Closed n) e = never (cc)
 one-opened (opened.Refused m) (opened.Refused n) e = let z : m ≡ n = cc in ap opened.Refused z
 
--- `answer`: any words, any bytes, any room; the result and the bytes after it.
-module _ (words s room : List ℕ) (r : Printed) (bytes : List ℕ) (call : allows.answer words s room r bytes) where
-  -- the line of the first request
-  abbrev text : List ℕ
-  text = firstLine (policyOf words) s
+-- A call prints a text in front of the lent bytes, unless a line refuses it: its result, and the bytes after it.
+pub record Puts (ls : List Line) (text room : List ℕ) (r : Printed) (bytes : List ℕ) : Type 0 where
+  pub call : left r bytes ≡ printing ls text room
 
+-- so does `answer`
+pub answer-puts : (words s room : List ℕ) (r : Printed) (bytes : List ℕ) → allows.answer words s room r bytes
+    → Puts (answerLines words room) (firstLine (policyOf words) s) room r bytes
+unfolding answering
+answer-puts words s room r bytes e = record { call = e }
+
+-- so does `answer_all`
+pub answer-all-puts : (words s room : List ℕ) (r : Printed) (bytes : List ℕ) → allows.answer-all words s room r bytes
+    → Puts (answerAllLines words s room) (requestsOf (policyOf words) s) room r bytes
+unfolding answeringAll
+answer-all-puts words s room r bytes e = record { call = e }
+
+-- What such a call says and leaves.
+module _ {ls : List Line} {text room : List ℕ} {r : Printed} {bytes : List ℕ} (put : Puts ls text room r bytes) where
   -- what it says
-  said : told r ≡ answer (answerLines words room) (length text)
-  unfolding answering
-  said = ap (λ (b : Saving). b .answers) call
+  said : told r ≡ answer ls (length text)
+  said = ap (λ (b : Saving). b .answers) (put .call)
 
   -- what it leaves
-  kept-as : bytes ≡ kept (answer (answerLines words room) (length text)) (over text room) room
-  unfolding answering
-  kept-as = ap (λ (b : Saving). b .leaves) call
+  kept-as : bytes ≡ kept (answer ls (length text)) (over text room) room
+  kept-as = ap (λ (b : Saving). b .leaves) (put .call)
 
   -- "each is given exactly when its line holds and none before it does"
-  pub answer-refused : (n : ℕ) → (r ≡ Refused n) ↔ First n (answerLines words room)
+  given-exactly : (n : ℕ) → (r ≡ Refused n) ↔ First n ls
   unfolding told
-  answer-refused n = (
-    λ e. refused-first (length text) (answerLines words room) (sym said ∙ ap told e),
+  given-exactly n = (
+    λ e. refused-first (length text) ls (sym said ∙ ap told e),
     λ f. one-printed r (Refused n) (said ∙ first-refused (length text) f),
   )
 
-  -- "A refused call .. writes nothing."
-  pub answer-leaves : {n : ℕ} → r ≡ Refused n → bytes ≡ room
+  -- and "A refused call .. writes nothing."
+  pub put-refused : Refuses Refused ls r (bytes ≡ room)
   unfolding kept
-  answer-leaves {n} e =
-      kept-as ∙ ap (λ (a : Answer ℕ). kept a (over text room) room) (first-refused (length text) (answer-refused n .0 e))
-
-  -- it prints exactly if no line holds, and tells how many bytes
-  pub answer-done : None (answerLines words room) → r ≡ Length (length text)
-  unfolding told
-  answer-done f = one-printed r (Length (length text)) (said ∙ none-accepted (length text) f)
+  put-refused = record {
+    exactly = given-exactly;
+    untouched = λ n e. kept-as ∙ ap (λ (a : Answer ℕ). kept a (over text room) room) (first-refused (length text) (given-exactly n .0 e));
+  }
 
   -- where it prints no line holds, and the number is the length of the text
-  pub answer-none : {n : ℕ} → r ≡ Length n → None (answerLines words room) × (n ≡ length text)
+  pub put-none : {n : ℕ} → r ≡ Length n → None ls × (n ≡ length text)
   unfolding told
-  answer-none e = accepted-none (length text) (answerLines words room) (sym said ∙ ap told e)
+  put-none e = accepted-none (length text) ls (sym said ∙ ap told e)
 
-  -- the line stands in front, and the other bytes are as they were
-  pub answer-bytes : {n : ℕ} → r ≡ Length n → bytes ≡ text ++ drop (length text) room
+  -- it prints exactly if no line holds, and tells how many bytes
+  pub put-exactly : (n : ℕ) → (r ≡ Length n) ↔ (None ls × (n ≡ length text))
+  unfolding told
+  put-exactly n = (put-none, λ p. rw (p .1) (one-printed r (Length (length text)) (said ∙ none-accepted (length text) (p .0))))
+
+  -- the text stands in front, and the other bytes are as they were
+  pub put-bytes : {n : ℕ} → r ≡ Length n → bytes ≡ text ++ drop (length text) room
   unfolding kept
-  answer-bytes e = kept-as ∙ ap (λ (a : Answer ℕ). kept a (over text room) room) (none-accepted (length text) (answer-none e .0))
+  put-bytes e = kept-as ∙ ap (λ (a : Answer ℕ). kept a (over text room) room) (none-accepted (length text) (put-none e .0))
 
-  -- what was printed is the line of the first request
-  pub answer-text : {n : ℕ} → r ≡ Length n → take n bytes ≡ text
-  answer-text e = rw (answer-bytes e, answer-none e .1) (take-append-seam text (drop (length text) room))
-
-  -- it has at most 57 bytes
-  pub answer-short : {n : ℕ} → r ≡ Length n → n ≤ 57
-  answer-short e = rw (answer-none e .1) (first-short (policyOf words) s)
+  -- what was printed is the text
+  pub put-text : {n : ℕ} → r ≡ Length n → take n bytes ≡ text
+  put-text e = rw (put-bytes e, put-none e .1) (take-append-seam text (drop (length text) room))
 
 -- `begin`: any bytes, any words, any room; the result, the words and the bytes after it.
 module _ (words s room : List ℕ) (r : Opened) (words′ bytes′ : List ℕ) (call : allows.begin words s room r words′ bytes′) where

@@ -5,10 +5,10 @@ use mathlib.Core.Path.{_≡_, refl, sym, ap, _∙_}
 use mathlib.Core.Bool.{Bool, true, not}
 use mathlib.Core.List.{List, [], _∷_, _++_, append-nil}
 use mathlib.Core.Logic.{inr}
-use Prim.Native.Nat.{ℕ, _+_, _≤_}
+use Prim.Native.Nat.{ℕ, _+_, _%_, _≤_}
 use native.Mathlib.Omega.{arith}
 use borrow.Author.Tests.{eq-eqb, le-ltb, lt-ltb, ltb-true, not-false}
-use lib.Dec.{leb}
+use lib.Dec.{eqb, leb}
 use lib.ListN.{length, take, drop, replicate}
 use lib.Seq.{take-append-seam}
 use Rattle.model.specs.Policy.{Policy}
@@ -38,14 +38,15 @@ use Rattle.desk.specs.declared.Opened.{Opened}
 use Rattle.desk.specs.declared.Opened.the-variants as opened
 use Rattle.desk.specs.Printing.{lineRoom, firstLine, answering, told, imageLength, isShort, imageAnswer, headLine, begun, wordsIn, Beginning, toldBegun}
 use Rattle.desk.specs.Allows as allows
-use Rattle.desk.specs.Claims.{Unique, WantedExact, BeginRefusalsExact, AnswerRefusalsExact, Begins, BeginExact, AnswerExact, NeverTen, needed, TwoSuffice, TwoRowsSuffice, LinesAre, LinesExist, DeskPrints}
-use Rattle.desk.specs.Running.{AtHand, Lines, none, then, Prints, all-printed, lines-follow}
+use Rattle.desk.specs.Claims.{Unique, WantedExact, BeginRefusalsExact, AnswerRefusalsExact, AnswerAllRefusalsExact, Begins, BeginExact, AnswerExact, AnswerAllExact, NeverTen, NeverTenAll, needed, TwoSuffice, TwoRowsSuffice, LinesAre, LinesExist, DeskPrints}
+use Rattle.desk.specs.Running.{AtHand, Lines, none, then, all-then, Prints, all-printed, lines-follow}
 use Rattle.desk.proofs.Answering.{deny-explained, denied-accepted, denied-verdict}
-use Rattle.desk.proofs.Requests.{first-then, hand-line}
+use Rattle.desk.proofs.Requests.{first-then, requests-short, hand-line, hand-lines, one-by-one}
+use Rattle.desk.proofs.Lengths.{first-short}
 use Rattle.desk.proofs.Apart.{first-apart}
 use Rattle.desk.proofs.Reading.{short-wanted}
 use Rattle.desk.proofs.Outputs.{desk-refused, desk-accepted}
-use Rattle.desk.proofs.Results.{one-printed, one-opened, answer-refused, answer-leaves, answer-done, answer-none, answer-bytes, answer-text, answer-short, begin-refused, begin-leaves, begin-none, begin-start, begin-table, begin-open-short, begin-closed-short}
+use Rattle.desk.proofs.Results.{one-printed, one-opened, answer-puts, answer-all-puts, put-refused, put-none, put-exactly, put-bytes, put-text, begin-refused, begin-leaves, begin-none, begin-start, begin-table, begin-open-short, begin-closed-short}
 
 -- the contract of each call allows one result
 pub unique : Unique
@@ -57,6 +58,8 @@ unique = record {
     ap (λ (b : Beginning). b .bytes) (e ∙ sym f),
   );
   answer = λ words s room r q room′ room″ e f.
+      (one-printed r q (ap (λ (b : Saving). b .answers) (e ∙ sym f)), ap (λ (b : Saving). b .leaves) (e ∙ sym f));
+  answer-all = λ words s room r q room′ room″ e f.
       (one-printed r q (ap (λ (b : Saving). b .answers) (e ∙ sym f)), ap (λ (b : Saving). b .leaves) (e ∙ sym f));
 }
 
@@ -74,8 +77,11 @@ begin-refusals-exact = λ words s room words′ room′ r e.
 
 -- so is each refusal of `answer`
 pub answer-refusals-exact : AnswerRefusalsExact
-answer-refusals-exact = λ words s room room′ r e.
-    record { exactly = answer-refused words s room r room′ e; untouched = λ n h. answer-leaves words s room r room′ e h }
+answer-refusals-exact = λ words s room room′ r e. put-refused (answer-puts words s room r room′ e)
+
+-- and of `answer_all`
+pub answer-all-refusals-exact : AnswerAllRefusalsExact
+answer-all-refusals-exact = λ words s room room′ r e. put-refused (answer-all-puts words s room r room′ e)
 
 -- what `begin` tells, leaves and prints where it is not refused
 pub begin-exact : BeginExact
@@ -90,17 +96,29 @@ begin-exact = record {
 -- what `answer` tells and prints where it is not refused
 pub answer-exact : AnswerExact
 answer-exact = record {
-  prints = λ words s room room′ r e n. (
-    answer-none words s room r room′ e,
-    λ p. rw (p .1) (answer-done words s room r room′ e (p .0)),
-  );
-  in-front = λ words s room room′ n e. answer-bytes words s room (Length n) room′ e refl;
-  short = λ words s room room′ n e. answer-short words s room (Length n) room′ e refl;
+  prints = λ words s room room′ r e. put-exactly (answer-puts words s room r room′ e);
+  in-front = λ words s room room′ n e. put-bytes (answer-puts words s room (Length n) room′ e) refl;
+  short = λ words s room room′ n e. rw (put-none (answer-puts words s room (Length n) room′ e) refl .1) (first-short (policyOf words) s);
+}
+
+-- what `answer_all` does
+pub answer-all-exact : AnswerAllExact
+answer-all-exact = record {
+  prints = λ words s room room′ r e. put-exactly (answer-all-puts words s room r room′ e);
+  in-front = λ words s room room′ n e. put-bytes (answer-all-puts words s room (Length n) room′ e) refl;
+  short = λ words s room room′ n e. rw (put-none (answer-all-puts words s room (Length n) room′ e) refl .1) (requests-short (policyOf words) s);
 }
 
 -- the line of a request is never `R 10`
 pub never-ten : NeverTen
-never-ten = λ words s room room′ n e f. first-apart (policyOf words) s (sym (answer-text words s room (Length n) room′ e refl) ∙ f)
+never-ten = λ words s room room′ n e f. first-apart (policyOf words) s (sym (put-text (answer-puts words s room (Length n) room′ e) refl) ∙ f)
+
+-- nor is any of the lines of all requests
+pub never-ten-all : NeverTenAll
+never-ten-all = λ words s room room′ n e. record {
+  lines = put-text (answer-all-puts words s room (Length n) room′ e) refl ∙ one-by-one (policyOf words) s;
+  no-ten = first-apart (policyOf words);
+}
 
 -- two lent rows are enough for a request that is denied on words that hold a table
 two-rows : {words : List ℕ} (q : Request) → Table words → policy.decide words q decision.Deny → (e : Explanation) (room why : List (List ℕ)) → 2 ≤ length room
@@ -131,7 +149,14 @@ pub answers-lines : (words room : List ℕ) (r : Printed) (bytes : List ℕ) {ha
     → allows.answer words hand room r bytes
     → {n : ℕ} → r ≡ Length n → take n bytes ++ requestsOf (policyOf words) (drop 5 s) ≡ requestsOf (policyOf words) s
 answers-lines words room r bytes {hand} {more} {s} lent call e =
-    rw (answer-text words hand room r bytes call e, hand-line (policyOf words) lent) (first-then (policyOf words) s)
+    rw (put-text (answer-puts words hand room r bytes call) e, hand-line (policyOf words) lent) (first-then (policyOf words) s)
+
+-- pieces-lines: the lines that a call prints of a piece, and the lines of what is behind it, are all lines
+pub pieces-lines : (words room : List ℕ) (r : Printed) (bytes : List ℕ) {hand more s : List ℕ} → AtHand (eqb (length hand % 5) 0) hand more s
+    → allows.answer-all words hand room r bytes
+    → {n : ℕ} → r ≡ Length n → take n bytes ++ requestsOf (policyOf words) more ≡ requestsOf (policyOf words) s
+pieces-lines words room r bytes {hand} {more} {s} lent call e =
+    rw (put-text (answer-all-puts words hand room r bytes call) e) (hand-lines (policyOf words) lent)
 
 -- so calls one after another print the lines of all requests
 all-lines : {words s text : List ℕ} → Lines words s text → text ≡ requestsOf (policyOf words) s
@@ -139,6 +164,8 @@ unfolding requestsOf
 all-lines none = refl
 all-lines {words} (then {s = s} lent room bytes n call {text = text} l) =
     rw (all-lines l) (answers-lines words room (Length n) bytes lent call refl)
+all-lines {words} (all-then {s = s} lent room bytes n call {text = text} l) =
+    rw (all-lines l) (pieces-lines words room (Length n) bytes lent call refl)
 
 -- Such calls there are, on any words that hold a table and over any bytes.
 module _ (words : List ℕ) (table : holdsTable words ≡ true) where
@@ -164,7 +191,7 @@ module _ (words : List ℕ) (table : holdsTable words ≡ true) where
   each-line (a ∷ b ∷ c ∷ d ∷ []) = one-more (a ∷ b ∷ c ∷ d ∷ []) none
   each-line (a ∷ b ∷ c ∷ d ∷ e ∷ more) = one-more (a ∷ b ∷ c ∷ d ∷ e ∷ more) (each-line more)
 
--- calls of `answer`, one after another, print the lines of all requests
+-- calls of `answer` and `answer_all`, one after another, print the lines of all requests
 pub lines-are : LinesAre
 lines-are = λ words s text l. all-lines l
 
@@ -211,6 +238,6 @@ module _ (words room : List ℕ) (fits : length words ≡ wordCount) (wide : lin
       go (refused k) e = refused-prints e
       go (accepted made) e = accepted-prints e
 
--- what `begin` and then `answer`, call by call, print is the output that 01 gives for the input
+-- what `begin` and then `answer` and `answer_all`, call by call, print is the output that 01 gives for the input
 pub desk-prints : DeskPrints
 desk-prints = λ words room fits wide hand more s lent r words′ room′ call. whole-printed words room fits wide lent r words′ room′ call

@@ -6,7 +6,7 @@ use mathlib.Core.List.{List}
 use Prim.Native.Nat.{ℕ}
 use Rattle.desk.specs.declared.Printed.{Printed}
 use Rattle.desk.specs.declared.Opened.{Opened}
-use Rattle.desk.specs.Printing.{wantedBytes, answering, left, beginning, leftBegun}
+use Rattle.desk.specs.Printing.{wantedBytes, answering, answeringAll, left, beginning, leftBegun}
 
 -- wanted: as many bytes as `wantedBytes` says. That these are 2 to 65,537, which is so only as a byte is at most 255, is an `ensures` of its own.
 abbrev pub wanted : (s : List ℕ) (r : ℕ) → Type 0
@@ -19,3 +19,7 @@ begin words s room r words′ room′ = leftBegun r words′ room′ ≡ beginni
 -- answer
 abbrev pub answer : (words s room : List ℕ) (r : Printed) (room′ : List ℕ) → Type 0
 answer words s room r room′ = left r room′ ≡ answering words s room
+
+-- answer_all
+abbrev pub answer-all : (words s room : List ℕ) (r : Printed) (room′ : List ℕ) → Type 0
+answer-all words s room r room′ = left r room′ ≡ answeringAll words s room

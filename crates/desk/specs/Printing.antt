@@ -2,13 +2,13 @@
 -- Assumes nothing.
 use mathlib.Core.Bool.{Bool, true, cond, not}
 use mathlib.Core.List.{List, [], _∷_}
-use Prim.Native.Nat.{ℕ, _+_, _*_}
+use Prim.Native.Nat.{ℕ, zero, suc, _+_, _*_, _/_}
 use lib.Dec.{eqb, ltb}
 use lib.ListN.{length, take, drop, getD}
 use Rattle.model.specs.Policy.{Policy}
 use Rattle.model.specs.Refusal.{Line, _when_, Answer, refused, accepted, answer}
 use Rattle.model.specs.Bits.{bitsOf}
-use Rattle.model.specs.Desk.{line, L, R, countsLine, requestLine}
+use Rattle.model.specs.Desk.{line, L, R, countsLine, requestLine, requestsOf}
 use Rattle.model.specs.Calls.{Saving, kept, over}
 use Rattle.table.specs.Layout.{wordCount}
 use Rattle.table.specs.View.{holdsTable, policyOf}
@@ -33,12 +33,32 @@ firstLine p s =
 abbrev pub answerLines : (words room : List ℕ) → List Line
 answerLines words room = (1 when not (holdsTable words)) ∷ (10 when ltb (length room) lineRoom) ∷ []
 
--- Answering a request: how many bytes the line has, and the lent bytes afterwards.
-unfoldable pub answering : (words s room : List ℕ) → Saving
-answering words s room =
-    let text = firstLine (policyOf words) s in
-    let told = answer (answerLines words room) (length text) in
+-- Printing a text where no line refuses: how many bytes it has, and the lent bytes afterwards, in front of which it stands.
+abbrev pub printing : (lines : List Line) (text room : List ℕ) → Saving
+printing lines text room =
+    let told = answer lines (length text) in
     record { answers = told; leaves = kept told (over text room) room }
+
+-- Answering a request: its line is printed.
+unfoldable pub answering : (words s room : List ℕ) → Saving
+answering words s room = printing (answerLines words room) (firstLine (policyOf words) s) room
+
+-- how many requests the bytes are: five bytes each, and a last one that is cut short counts
+abbrev pub requestCount : List ℕ → ℕ
+requestCount s = (length s + 4) / 5
+
+-- the bytes of so many requests, one by one: five, or what is left
+unfoldable pub requestsIn : (count : ℕ) → List ℕ → List (List ℕ)
+requestsIn zero s = []
+requestsIn (suc n) s = take 5 s ∷ requestsIn n (drop 5 s)
+
+-- the lines of a call that answers all requests: the same, with room for as many lines as there are requests
+abbrev pub answerAllLines : (words s room : List ℕ) → List Line
+answerAllLines words s room = (1 when not (holdsTable words)) ∷ (10 when ltb (length room) (lineRoom * requestCount s)) ∷ []
+
+-- Answering all requests: their lines are printed, one behind the other.
+unfoldable pub answeringAll : (words s room : List ℕ) → Saving
+answeringAll words s room = printing (answerAllLines words s room) (requestsOf (policyOf words) s) room
 
 -- `Length`: so many bytes were printed; `Refused`: the refusal number
 unfoldable pub told : Printed → Answer ℕ

@@ -1,22 +1,23 @@
 // The desk: what the desk program prints, as functions from input bytes to output bytes. One call tells how many bytes the length and the image are;
-// one reads the image and prints the first line; one answers a request and prints its line.
+// one reads the image and prints the first line; one answers a request and prints its line; one answers all requests of a piece and prints their lines.
 use bits::Cursor;
 use decide::Decision;
 use request::Request;
 use table::Outcome;
 ghost use mathlib.Core.Path.{_≡_};
+ghost use mathlib.Core.List.{[], _∷_};
 ghost use Prim.Native.Nat.{_+_, _*_, _≤_, _<_};
 ghost use lib.ListN.{length};
 ghost use Rattle.model.specs.Bits.{bitsOf};
 ghost use Rattle.model.specs.Contain.{contained};
 ghost use Rattle.model.specs.Request.{deny, verdict};
 ghost use Rattle.model.specs.Explain.{rows};
-ghost use Rattle.model.specs.Desk.{countsLine, requestIn, denyLine, requestLine};
+ghost use Rattle.model.specs.Desk.{line, R, countsLine, requestIn, denyLine, requestLine, requestsOf};
 ghost use Rattle.table.specs.View.{policyOf};
 ghost use Rattle.table.specs.Facts.{Table};
 ghost use Rattle.request.specs.Asks.{requestOf, Accepted};
 ghost use Rattle.lines.specs.Typing.{Typed};
-ghost use Rattle.desk.specs.Printing.{imageLength};
+ghost use Rattle.desk.specs.Printing.{lineRoom, requestCount, imageLength};
 ghost use Rattle.desk.specs.Allows as allows;
 
 // A line needs no more bytes.
@@ -109,6 +110,15 @@ fn put_answer(mem: &[u32], s: &[u8], out: &mut [u8]) -> usize
     }
 }
 
+// Puts the line of a request that is cut short.
+fn put_cut(out: &mut [u8]) -> usize
+    requires { ⌜ 64 ≤ length (now out) ⌝ }
+    ensures { λ r. ⌜ Typed (line R (12 ∷ [])) 0 (now (out .entry)) (now (out .exit)) r ⌝ }
+    ensures { λ r. ⌜ r ≤ 57 ⌝ }
+{
+    lines::put_line(out, REFUSED, &[12])
+}
+
 // Answers the first request among the bytes: prints its line in front of the lent bytes, which must be at least 64.
 pub fn answer(mem: &[u32], s: &[u8], out: &mut [u8]) -> Printed
     ensures { λ r. ⌜ allows.answer (now (mem .entry)) (now (s .entry)) (now (out .entry)) r (now (out .exit)) ⌝ }
@@ -123,9 +133,54 @@ pub fn answer(mem: &[u32], s: &[u8], out: &mut [u8]) -> Printed
         return Printed::Length(0);
     }
     if s.len() < REQUEST {
-        return Printed::Length(lines::put_line(out, REFUSED, &[12]));
+        return Printed::Length(put_cut(out));
     }
     Printed::Length(put_answer(mem, &s[0..REQUEST], out))
+}
+
+// How many requests the bytes are.
+fn request_count(s: &[u8]) -> usize
+    ensures { λ r. ⌜ r ≡ requestCount (now (s .entry)) ⌝ }
+{
+    let n = s.len();
+    if n % REQUEST == 0 {
+        return n / REQUEST;
+    }
+    n / REQUEST + 1
+}
+
+// Puts the lines of the requests, one behind the other.
+fn put_lines(mem: &[u32], s: &[u8], out: &mut [u8]) -> usize
+    requires { ⌜ Table (now mem) ⌝ }
+    requires { ⌜ lineRoom * requestCount (now s) ≤ length (now out) ⌝ }
+    ensures { λ r. ⌜ Typed (requestsOf (policyOf (now (mem .entry))) (now (s .entry))) 0 (now (out .entry)) (now (out .exit)) r ⌝ }
+{
+    let n = s.len();
+    let mut at = 0;
+    let mut used = 0;
+    while REQUEST <= n - at {
+        let behind = at + REQUEST;
+        used += put_answer(mem, &s[at..behind], &mut out[used..]);
+        at = behind;
+    }
+    if at < n {
+        return used + put_cut(&mut out[used..]);
+    }
+    used
+}
+
+// Answers all requests among the bytes: prints their lines, one behind the other, in front of the lent bytes, which must be at least 64 for each request.
+pub fn answer_all(mem: &[u32], s: &[u8], out: &mut [u8]) -> Printed
+    ensures { λ r. ⌜ allows.answer-all (now (mem .entry)) (now (s .entry)) (now (out .entry)) r (now (out .exit)) ⌝ }
+{
+    if !table::holds(mem) {
+        return Printed::Refused(1);
+    }
+    let requests = request_count(s);
+    if out.len() / LINE < requests {
+        return Printed::Refused(10);
+    }
+    Printed::Length(put_lines(mem, s, out))
 }
 
 // Puts the line of the table's counts.

@@ -11,6 +11,9 @@ ghost use lib.ListN.{length};
 // Bytes of a piece: 819 requests.
 const PIECE: usize = 4095;
 
+// Bytes for the lines of a piece: 64 for each request.
+const LINES: usize = 52416;
+
 // The lesser of two: what was printed is no more than there was room for.
 fn lesser(a: usize, b: usize) -> usize
     ensures { λ r. ⌜ (r ≤ a) × (r ≤ b) ⌝ }
@@ -56,62 +59,18 @@ fn count(printed: Printed) -> usize {
     }
 }
 
-// Answers a request behind what is printed already. Returns how many bytes are printed then.
-fn answer(mem: &[u32], request: &[u8], out: &mut [u8], used: usize) -> usize
-    requires { ⌜ length (now out) ≡ 4096 ⌝ }
-    requires { ⌜ used ≤ 4032 ⌝ }
-    ensures { λ r. ⌜ r ≤ 4096 ⌝ }
-{
-    let printed = desk::answer(mem, request, &mut out[used..4096]);
-    used + lesser(count(printed), 4096 - used)
-}
-
-// Writes what is printed, where another line may not fit behind it. Returns how many bytes are printed and not written.
-fn write_full(out: &[u8], used: usize) -> usize
-    requires { ⌜ length (now out) ≡ 4096 ⌝ }
-    requires { ⌜ used ≤ 4096 ⌝ }
-    ensures { λ r. ⌜ r ≤ 4032 ⌝ }
-{
-    if used <= 4032 {
-        return used;
-    }
-    io::write_all(STDOUT_FILENO, &out[0..used]);
-    0
-}
-
-// Bytes of the next request, of n that are there: five, or fewer where there are no more.
-fn next_request(n: usize) -> usize
-    requires { ⌜ 1 ≤ n ⌝ }
-    ensures { λ r. ⌜ (1 ≤ r) × (r ≤ n) ⌝ }
-{
-    if n < desk::REQUEST { n } else { desk::REQUEST }
-}
-
-// Answers the requests of a piece, and prints their lines.
-fn answer_piece(mem: &[u32], piece: &[u8]) {
-    let mut out = [0u8; 4096];
-    let mut used = 0;
-    let mut at = 0;
-    let n = piece.len();
-    while at < n {
-        let behind = at + next_request(n - at);
-        used = answer(mem, &piece[at..behind], &mut out, used);
-        used = write_full(&out, used);
-        at = behind;
-    }
-    io::write_all(STDOUT_FILENO, &out[0..used]);
-}
-
-// Reads the next piece and answers it. Returns how many bytes it had.
+// Reads the next piece, answers its requests and prints their lines. Returns how many bytes the piece had.
 fn answer_next(mem: &[u32]) -> usize {
     let mut input = [0u8; PIECE];
+    let mut out = [0u8; LINES];
     let n = io::read_full(STDIN_FILENO, &mut input);
-    answer_piece(mem, &input[0..n]);
+    let printed = desk::answer_all(mem, &input[0..n], &mut out);
+    io::write_all(STDOUT_FILENO, &out[0..lesser(count(printed), LINES)]);
     n
 }
 
 // A proved loop has to end, and nothing says that the input does: the turns are counted down from a number that no run uses up.
-fn answer_all(mem: &[u32]) {
+fn answer_pieces(mem: &[u32]) {
     let mut turns = u64::MAX;
     while 0 < turns && answer_next(mem) == PIECE {
         turns -= 1;
@@ -121,6 +80,6 @@ fn answer_all(mem: &[u32]) {
 fn main() {
     let mut mem = [0u32; 8192];
     if begin(&mut mem) {
-        answer_all(&mem);
+        answer_pieces(&mem);
     }
 }

@@ -7,7 +7,7 @@ use second::command::GivenProhibition;
 use second::image::Written;
 use second::make::{self, Random, Size};
 use second::policy::{ATTRIBUTES, USER, USER_ATTRIBUTE};
-use second::{words, Answer, Command, Machine, Policy};
+use second::{lent, words, Answer, Command, Machine, Policy};
 use std::collections::BTreeMap;
 
 /// The seed of the random tests: QUANDRILOF_SEED, or always the same.
@@ -614,15 +614,17 @@ pub fn memory_round(random: &mut Random, size: Size, cases: u32, seen: &mut Seen
         let policy = &table.policy;
         let image = words::written(&words).bytes();
         save_into(&words, &image, random);
-        // the second program's indexed decision speaks of ids up to 511
-        let by_index = table.wide.is_empty();
         for _ in 0..4 {
             let asked = some_request(random, policy);
             ask(&words, policy, asked, random, seen);
             ask_contains(&words, policy, random, seen);
-            if by_index {
-                ask_indexed(&words, policy, &index, asked);
-            }
+            let (process, operation, arguments) = asked;
+            let expected = lent::decide_indexed(&words, &index, process, operation, arguments);
+            assert_eq!(
+                answered(calls::decide_indexed(&words, &index, &request(asked))),
+                expected,
+                "{asked:?}"
+            );
         }
         assert_eq!(calls::build_index(&words, &mut index), Ok(()));
         assert!(index == second::build_index(policy));
@@ -630,22 +632,23 @@ pub fn memory_round(random: &mut Random, size: Size, cases: u32, seen: &mut Seen
         // commands, where the words that count are those by which the second program writes the policy
         let mut written = words.clone();
         words::write(policy, &mut written);
-        if written == counting(&words) && by_index {
-            for _ in 0..4 {
-                let command = some_command(random, policy);
-                let mut machine = Machine { policy: policy.clone(), index: index.clone() };
-                let (mut after, mut index) = (words.clone(), index.clone());
-                let expected = machine.run(&command);
-                assert_eq!(run_lent(&mut after, &mut index, &command), expected, "{command:?}");
-                words::write(&machine.policy, &mut written);
-                assert!(counting(&after) == written && index == machine.index, "{command:?}");
-                assert!(expected.is_ok() || after == words, "{command:?}");
-                written.copy_from_slice(&words);
-            }
-            seen.note("table and commands".to_string());
-        } else {
+        if written != counting(&words) || !table.wide.is_empty() {
             seen.note("table".to_string());
+            continue;
         }
+        for _ in 0..4 {
+            let command = some_command(random, policy);
+            let [(mut after, mut bytes), (mut expected, mut expected_bytes)] =
+                [(); 2].map(|()| (words.clone(), index.clone()));
+            let answer = lent::run(&mut expected, &mut expected_bytes, &command);
+            assert_eq!(run_lent(&mut after, &mut bytes, &command), answer, "{command:?}");
+            assert!(counting(&after) == counting(&expected) && bytes == expected_bytes, "{command:?}");
+            assert!(answer.is_ok() || after == words, "{command:?}");
+            if words != written && answer.is_ok() {
+                seen.note(format!("{} on filled places", second::command::COMMAND_NAMES[command.number()]));
+            }
+        }
+        seen.note("table and commands".to_string());
     }
 }
 

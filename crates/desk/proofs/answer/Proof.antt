@@ -7,7 +7,7 @@ use Rattle.desk.proofs.answer.Tie as tie
 use Rattle.desk.proofs.answer.Reads as reads
 use Rattle.desk.proofs.answer.Lts as lts
 use Rattle.desk.proofs.put_answer.Reads as put-answer-reads
-use Rattle.lines.proofs.put_line.Reads as put-line-reads
+use Rattle.desk.proofs.put_cut.Reads as put-cut-reads
 use Rattle.table.proofs.holds.Reads as holds-reads
 
 holds-requires : tie.Need-holds-requires
@@ -22,11 +22,8 @@ returns-2 c = search no-room
 returns-3 : tie.Need-returns-3
 returns-3 c = search none-printed
 
-slice-aggregate-put-line : tie.Need-slice-aggregate-put-line
-slice-aggregate-put-line c = search needs
-
-put-line-requires : tie.Need-put-line-requires
-put-line-requires c κs = search needs
+put-cut-requires : tie.Need-put-cut-requires
+put-cut-requires c κs = search needs
 
 same-length : tie.Need-same-length
 same-length c = search needs
@@ -60,8 +57,7 @@ answer-spec =
     returns
     returns-2
     returns-3
-    slice-aggregate-put-line
-    put-line-requires
+    put-cut-requires
     same-length
     returns-4
     sub-put-answer

@@ -1,9 +1,9 @@
 use Prim.Native.Nat.{_≤_}
 use native.Mathlib.Omega.{arith}
-use Rattle.desk_main.proofs.answer_all.Statement.{statement}
-use Rattle.desk_main.proofs.answer_all.Tie as tie
-use Rattle.desk_main.proofs.answer_all.Reads as reads
-use Rattle.desk_main.proofs.answer_all.Lts as lts
+use Rattle.desk_main.proofs.answer_pieces.Statement.{statement}
+use Rattle.desk_main.proofs.answer_pieces.Tie as tie
+use Rattle.desk_main.proofs.answer_pieces.Reads as reads
+use Rattle.desk_main.proofs.answer_pieces.Lts as lts
 use Rattle.desk_main.proofs.answer_next.Reads as answer-next-reads
 
 abbrev Inv-loop : tie.InvT-loop
@@ -33,8 +33,8 @@ returns c = omega arith
 returns-2 : tie.Need-returns-2 Inv-loop μ-loop
 returns-2 c = omega arith
 
-pub answer-all-spec : {M : Type 1} → statement M
-answer-all-spec =
+pub answer-pieces-spec : {M : Type 1} → statement M
+answer-pieces-spec =
     tie.close
     (tie.spec
     Inv-loop
