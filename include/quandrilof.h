@@ -35,7 +35,7 @@ enum {
     QD_PROCESS_MOST = 255,       /* processes are 1 to 255 */
     QD_ASSIGNMENTS_MOST = 2000,  /* a table holds no more assignments, */
     QD_ASSOCIATIONS_MOST = 1000, /* no more associations, */
-    QD_PROHIBITIONS_MOST = 200,  /* and no more prohibitions: one more is refused with 10 */
+    QD_PROHIBITIONS_MOST = 200,  /* and no more prohibitions: one more is refused with 10, in an image with 13 */
     QD_LIST_MOST = 4             /* a prohibition lists at most four inclusions and four exclusions */
 };
 

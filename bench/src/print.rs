@@ -95,10 +95,13 @@ fn ratios(
 
 fn times(text: &mut String, Measured { table, counts, lines }: &Measured) -> std::fmt::Result {
     let [elements, assignments, associations, prohibitions, processes] = counts;
+    let judging = lines.iter().map(|line| line.judging).filter(|time| *time > 0.0).min_by(f64::total_cmp);
+    let judging = judging
+        .map_or(String::new(), |least| format!("; the second program's test of the words: {}", time(least)));
     writeln!(
         text,
         "\n**{table}**: {elements} elements, {assignments} assignments, {associations} associations, \
-         {prohibitions} prohibitions, {processes} processes; nanoseconds a call.\n"
+         {prohibitions} prohibitions, {processes} processes; nanoseconds a call{judging}.\n"
     )?;
     writeln!(text, "| call | case | proved | second, same inputs | by proved | second, kept sets | by proved | C | by proved |")?;
     writeln!(text, "|---|---|---:|---:|---:|---:|---:|---:|---:|")?;

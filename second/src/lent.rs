@@ -1,5 +1,6 @@
 //! The calls over lent words, as the project's library has them: the words are judged first (refusal 1), the policy that they are is
-//! read into sets, and the call is made. What a command leaves is written back.
+//! read into sets, and the call is made (save packs the words as they stand; new and load ask the length alone). After an accepted
+//! command the table is written anew.
 //!
 //! Nothing is kept between two calls but the words and the index. Whoever keeps the sets calls what stands under the same names
 //! elsewhere in this program.
@@ -93,7 +94,8 @@ pub fn explain(
 }
 
 /// Runs one command. A refused one changes nothing. An accepted one writes the policy's table anew: its groups in the image's order,
-/// zeros behind each. So only where the words were written so before are those that it does not concern left.
+/// each record once, zeros behind each, and for a number above 511 its stand-in. So only where the words were written so before, and
+/// name no such number, are those that it does not concern left.
 pub fn run(words: &mut [u32], index: &mut [u8], command: &Command) -> Result<(), u32> {
     let mut policy = read(words)?.policy;
     command::run(&mut policy, index.len(), command)?;

@@ -14,6 +14,7 @@ fn words_of(policy: &Policy) -> Vec<u32> {
 #[test]
 fn as_on_the_policy() {
     let mut random = Random::new(16);
+    let mut within = false;
     for round in 0..40 {
         let size = if round == 0 { Size::FULL } else { Size::small(&mut random) };
         let policy = make::policy(&mut random, size);
@@ -31,8 +32,13 @@ fn as_on_the_policy() {
             let expected = second::explain_into(&policy, p, o, a, others);
             assert_eq!(lent::explain(&words, p, o, a, ours), expected);
             assert_eq!(ours, others);
-            let (x, y) = (make::wild_id(&mut random), a[0]);
-            assert_eq!(lent::contains(&words, x, y), second::contains(&policy, x, y));
+            let x = make::element_id(&mut random, &policy, &[1, 2, 3, 4, 5]);
+            let above = u16::try_from(x).map_or(Vec::new(), |x| policy.reach(x).into_iter().collect());
+            for y in [random.pick(&above).map_or(a[0], u32::from), a[0], make::wild_id(&mut random)] {
+                let expected = second::contains(&policy, x, y);
+                assert_eq!(lent::contains(&words, x, y), expected, "{x} in {y}");
+                within |= x != y && expected == Ok(true);
+            }
 
             let command = make::command(&mut random, &policy);
             let mut machine = Machine { policy: policy.clone(), index: foreign.clone() };
@@ -60,6 +66,7 @@ fn as_on_the_policy() {
         assert_eq!(lent::new(&mut loaded), Ok(()));
         assert!(loaded == words_of(&Policy::new()));
     }
+    assert!(within);
 }
 
 /// Words that hold no table are refused with 1 and left.
