@@ -147,7 +147,7 @@ module _ {A : Type 0} (f g : A → Bool) (wider : (a : A) → f a ≡ true → g
       go false p true q h = omega arith
       go false p false q h = h
 
-  pub those_less : {l : List A} {a : A} → In a l → f a ≡ false → g a ≡ true → length (those f l) < length (those g l)
+  pub those_less : {a : A} {l : List A} → In a l → f a ≡ false → g a ≡ true → length (those f l) < length (those g l)
   unfolding those
   those_less {l = b ∷ l} first p q = rw (p, q) (let h = those_fewer l in omega arith)
   those_less {l = b ∷ l} (later i) p q = go (f b) refl (g b) refl (those_less i p q)
@@ -158,6 +158,7 @@ module _ {A : Type 0} (f g : A → Bool) (wider : (a : A) → f a ≡ true → g
       go true p false q h = absurd (clash (wider b p) q)
       go false p true q h = omega arith
       go false p false q h = h
+  those_less {a = a} {l = []} never p q = elim never [ ]
 
 module _ (p : Policy) (s : Sound p) where
   -- how many elements x is within: it falls with each assignment taken

@@ -46,6 +46,7 @@ further_next (a ∷ l) found i = go (leads a found) refl i (further_next l found
     go true e first k = record { child = a.child; assigned = first; there = member_in found (and_cut (member a.child found) (not (member a.container found)) e).0 }
     go true e (later j) k = let n = k j in record { child = n.child; assigned = later n.assigned; there = n.there }
     go false e j k = let n = k j in record { child = n.child; assigned = later n.assigned; there = n.there }
+further_next [] found {y = y} i = elim i [ ]
 
 -- where nothing comes further, what is found is closed
 none_further : (l : List Assignment) (found : List ℕ) → empty (further l found) ≡ true → Closed l found
@@ -60,6 +61,7 @@ none_further (a ∷ l) found e x y i h = go (member a.child found) refl (member 
     go true p true q (inr j) k = k (rw (p, q) at e) x y j h
     go true p false q (inr j) k = absurd (clash (rw (p, q) at e) refl)
     go false p t q (inr j) k = k (rw p at e) x y j h
+none_further [] found e x y i h = elim i [ ]
 
 -- how many assignments have a container that is not found
 missing : List Assignment → List ℕ → ℕ
@@ -105,6 +107,7 @@ missing_falls (b ∷ l) {found} {more} sub (later j) e i =
     go true p false q h = absurd (clash (in_member (sub b.container (member_in found p))) q)
     go false p true q h = omega arith
     go false p false q h = omega arith
+missing_falls [] {found = found} {more = more} sub {a = a} never e i = elim never [ ]
 
 -- each that comes further was not found
 further_new : (l : List Assignment) (found : List ℕ) {y : ℕ} → In y (further l found) → member y found ≡ false
@@ -116,6 +119,7 @@ further_new (a ∷ l) found i = go (leads a found) refl i (further_new l found)
     go true e first k = not-true (member a.container found) (and_cut (member a.child found) (not (member a.container found)) e).1
     go true e (later j) k = k j
     go false e j k = k j
+further_new [] found {y = y} i = elim i [ ]
 
 -- one round more leaves fewer assignments whose container is not found, if anything came further
 round_falls : (l : List Assignment) (found : List ℕ) {y : ℕ} → In y (further l found) → missing l (further l found ++ found) < missing l found
@@ -172,6 +176,7 @@ module _ (l : List Assignment) where
     where
       go : (y ≡ x) ⊎ In y [] → Within l x y
       go (inl e) = rw e itself
+      go (inr never) = elim never [ ]
 
   all_above : (x : ℕ) → Climbed l x (x ∷ []) (climbed (length l) l (x ∷ []))
   all_above x = climb_all (length l) l x (x ∷ []) (missing_most l (x ∷ [])) (start_above x)

@@ -78,6 +78,7 @@ module _ {A : Type 0} (key : A → List ℕ) where
       go true (later i) k = inr i
       go false first k = inr first
       go false (later i) k = ⊎_map (λ e. e) later (k i)
+  put_in {a = a} b [] (later never) = elim never [ ]
 
   -- b itself
   pub put_itself : (b : A) (l : List A) → In b (put key b l)
@@ -139,6 +140,7 @@ module _ {A : Type 0} (key : A → List ℕ) where
   rising_first {b} a (c ∷ l) e (later i) =
       let k = and_cut (before (key a) (key c)) (rising key (c ∷ l)) e in
       before_trans (key a) (key c) (key b) k.0 (rising_first c l k.1 i)
+  rising_first {b = b} a [] e never = elim never [ ]
 
   -- and the rest strictly rises
   pub rising_rest : (a : A) (l : List A) → rising key (a ∷ l) ≡ true → rising key l ≡ true
@@ -205,6 +207,7 @@ module _ {A : Type 0} (key : A → List ℕ) where
       go {a} true h i k = other h i (f a) refl
       go false h first k = h
       go false h (later i) k = k i
+  less_fails {a = a} f [] u e i = elim i [ ]
 
   -- so just those are left that stood there and do not pass
   pub less_exactly : {a : A} (f : A → Bool) (l : List A) → OneKey f → rising key l ≡ true → In a (less_first f l) ↔ (In a l × (f a ≡ false))

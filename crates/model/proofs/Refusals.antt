@@ -96,6 +96,7 @@ pub first_not_0 : {ls : List Line} → numbered ls ≡ true → First 0 ls → �
 unfolding all_of
 first_not_0 {ls = l ∷ ls} e (now q h) = clash (rw q at (and_left (not (eqb l.number 0)) (numbered ls) e)) refl
 first_not_0 {ls = l ∷ ls} e (next h f) = first_not_0 (and_right (not (eqb l.number 0)) (numbered ls) e) f
+first_not_0 {ls = []} e never = elim never [ ]
 
 pub refusal_none : (ls : List Line) → numbered ls ≡ true → refusal ls ≡ 0 → None ls
 refusal_none ls t e = go (judged ls)

@@ -95,6 +95,7 @@ module _ {A : Type 0} (f : A → Bool) where
   unfolding any_of
   any_none {l = b ∷ l} e first = (or_fails (f b) (any_of f l) e).0
   any_none {l = b ∷ l} e (later i) = any_none (or_fails (f b) (any_of f l) e).1 i
+  any_none {a = a} {l = []} e never = elim never [ ]
 
   pub any_append : (a b : List A) → any_of f (a ++ b) ≡ (any_of f a || any_of f b)
   unfolding any_of
@@ -106,6 +107,7 @@ module _ {A : Type 0} (f : A → Bool) where
   unfolding all_of
   all_in {l = b ∷ l} e first = and_left (f b) (all_of f l) e
   all_in {l = b ∷ l} e (later i) = all_in (and_right (f b) (all_of f l) e) i
+  all_in {a = a} {l = []} e never = elim never [ ]
 
   pub all_of_lem : (l : List A) → ((a : A) → In a l → f a ≡ true) → all_of f l ≡ true
   unfolding all_of
@@ -126,6 +128,7 @@ module _ {A : Type 0} (f : A → Bool) where
       go true first k = first
       go true (later i) k = later (k i)
       go false i k = later (k i)
+  those_in {a = a} [] i = elim i [ ]
 
   pub those_pass : {a : A} (l : List A) → In a (those f l) → f a ≡ true
   unfolding those
@@ -135,6 +138,7 @@ module _ {A : Type 0} (f : A → Bool) where
       go true e first k = e
       go true e (later i) k = k i
       go false e i k = k i
+  those_pass {a = a} [] i = elim i [ ]
 
   pub in_those : {a : A} {l : List A} → In a l → f a ≡ true → In a (those f l)
   unfolding those
@@ -154,6 +158,7 @@ module _ {A : Type 0} (f : A → Bool) where
       go true i k = later i
       go false first k = first
       go false (later i) k = later (k i)
+  less_in {a = a} [] i = elim i [ ]
 
   pub in_less : {a : A} {l : List A} → In a l → f a ≡ false → In a (less_first f l)
   unfolding less_first
@@ -174,9 +179,10 @@ module _ {A B : Type 0} (f : A → B) where
     pub there : In from l
     pub is : f from ≡ b
 
-  pub map_in : {b : B} (l : List A) → In b (map f l) → Mapped b l
+  pub map_in : (l : List A) {b : B} → In b (map f l) → Mapped b l
   map_in (a ∷ l) first = record { from = a; there = first; is = refl }
   map_in (a ∷ l) (later i) = let m = map_in l i in record { from = m.from; there = later m.there; is = m.is }
+  map_in [] never = elim never [ ]
 
 module _ {A : Type 0} where
   pub in_left : {a : A} {l : List A} (m : List A) → In a l → In a (l ++ m)

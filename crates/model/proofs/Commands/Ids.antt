@@ -53,6 +53,7 @@ module _ {A : Type 0} {id value : A → ℕ} {g : List A → ℕ → ℕ} (r : R
   pub read_in : {a : A} {l : List A} → rising by_id l ≡ true → In a l → g l (id a) ≡ value a
   read_in {a} {l = b ∷ l} e first = read_here a l
   read_in {a} {l = b ∷ l} e (later i) = read_past b l (id a) (other_id b l e i) ∙ read_in (rising_rest by_id b l e) i
+  read_in {a = a} {l = []} e never = elim never [ ]
 
   -- what no record has for its id reads 0
   pub read_none : (l : List A) (x : ℕ) → ((a : A) → In a l → id a ≡ x → ⊥) → g l x ≡ 0

@@ -83,87 +83,65 @@ one_pair x y a b h k = one_record assignment_fields (record { child = x; contain
 -- After a command the policy holds what the command puts, and what it held but what the command removes.
 pub step_holds : (p : Policy) → Sound p → (c : Command) (i : Item) → holds (after p c) i ≡ (puts c i || holds p i && not (removes c i))
 unfolding holds after puts removes is_item item_fields is_element_or_own is_process_item same
-step_holds p s (create_class x) i = elim i [
-  | an_element e ↦ has_put element_fields element_key (record { id = x; kind = class }) p.elements e
-  | an_assignment a ↦ untouched _
-  | an_association a ↦ untouched _
-  | a_prohibition b ↦ untouched _
-  | a_process q ↦ untouched _
-]
-step_holds p s (create_element x k y) i = elim i [
-  | an_element e ↦ has_put element_fields element_key (record { id = x; kind = k }) p.elements e
+step_holds p s (create_class x) (an_element e) = has_put element_fields element_key (record { id = x; kind = class }) p.elements e
+step_holds p s (create_class x) (an_assignment a) = untouched _
+step_holds p s (create_class x) (an_association a) = untouched _
+step_holds p s (create_class x) (a_prohibition b) = untouched _
+step_holds p s (create_class x) (a_process q) = untouched _
+step_holds p s (create_element x k y) (an_element e) = has_put element_fields element_key (record { id = x; kind = k }) p.elements e
       ∙ ap (λ t. t || holds p (an_element e) && true) (sym (or-false (same (x ∷ k ∷ []) (element_fields e))))
-  | an_assignment a ↦ has_put assignment_fields assignment_fields (record { child = x; container = y }) p.assignments a
-  | an_association a ↦ untouched _
-  | a_prohibition b ↦ untouched _
-  | a_process q ↦ untouched _
-]
-step_holds p s (assign x y) i = elim i [
-  | an_element e ↦ untouched _
-  | an_assignment a ↦ has_put assignment_fields assignment_fields (record { child = x; container = y }) p.assignments a
-  | an_association a ↦ untouched _
-  | a_prohibition b ↦ untouched _
-  | a_process q ↦ untouched _
-]
-step_holds p s (deassign x y) i = elim i [
-  | an_element e ↦ untouched _
-  | an_assignment a ↦ has_less assignment_fields assignment_fields_lem assignment_fields (is_pair x y) p.assignments (one_pair x y) (parts p s).rest.assignments.order a
+step_holds p s (create_element x k y) (an_assignment a) = has_put assignment_fields assignment_fields (record { child = x; container = y }) p.assignments a
+step_holds p s (create_element x k y) (an_association a) = untouched _
+step_holds p s (create_element x k y) (a_prohibition b) = untouched _
+step_holds p s (create_element x k y) (a_process q) = untouched _
+step_holds p s (assign x y) (an_element e) = untouched _
+step_holds p s (assign x y) (an_assignment a) = has_put assignment_fields assignment_fields (record { child = x; container = y }) p.assignments a
+step_holds p s (assign x y) (an_association a) = untouched _
+step_holds p s (assign x y) (a_prohibition b) = untouched _
+step_holds p s (assign x y) (a_process q) = untouched _
+step_holds p s (deassign x y) (an_element e) = untouched _
+step_holds p s (deassign x y) (an_assignment a) = has_less assignment_fields assignment_fields_lem assignment_fields (is_pair x y) p.assignments (one_pair x y) (parts p s).rest.assignments.order a
       ∙ ap (λ t. holds p (an_assignment a) && not t) (sym (pair_same x y a))
-  | an_association a ↦ untouched _
-  | a_prohibition b ↦ untouched _
-  | a_process q ↦ untouched _
-]
-step_holds p s (delete_element x) i = elim i [
-  | an_element e ↦ has_less element_fields element_fields_lem element_key (λ f. eqb x f.id) p.elements (one_id kinds x) (parts p s).elements.order e
-  | an_assignment a ↦ has_those assignment_fields assignment_fields_lem (λ b. not (eqb x b.child)) p.assignments a
-  | an_association a ↦ untouched _
-  | a_prohibition b ↦ untouched _
-  | a_process q ↦ untouched _
-]
-step_holds p s (create_association n) i = elim i [
-  | an_element e ↦ untouched _
-  | an_assignment a ↦ untouched _
-  | an_association a ↦ has_put association_fields association_fields n p.associations a
-  | a_prohibition b ↦ untouched _
-  | a_process q ↦ untouched _
-]
-step_holds p s (delete_association n) i = elim i [
-  | an_element e ↦ untouched _
-  | an_assignment a ↦ untouched _
-  | an_association a ↦ has_less association_fields association_fields_lem association_fields (λ b. same (association_fields n) (association_fields b)) p.associations
+step_holds p s (deassign x y) (an_association a) = untouched _
+step_holds p s (deassign x y) (a_prohibition b) = untouched _
+step_holds p s (deassign x y) (a_process q) = untouched _
+step_holds p s (delete_element x) (an_element e) = has_less element_fields element_fields_lem element_key (λ f. eqb x f.id) p.elements (one_id kinds x) (parts p s).elements.order e
+step_holds p s (delete_element x) (an_assignment a) = has_those assignment_fields assignment_fields_lem (λ b. not (eqb x b.child)) p.assignments a
+step_holds p s (delete_element x) (an_association a) = untouched _
+step_holds p s (delete_element x) (a_prohibition b) = untouched _
+step_holds p s (delete_element x) (a_process q) = untouched _
+step_holds p s (create_association n) (an_element e) = untouched _
+step_holds p s (create_association n) (an_assignment a) = untouched _
+step_holds p s (create_association n) (an_association a) = has_put association_fields association_fields n p.associations a
+step_holds p s (create_association n) (a_prohibition b) = untouched _
+step_holds p s (create_association n) (a_process q) = untouched _
+step_holds p s (delete_association n) (an_element e) = untouched _
+step_holds p s (delete_association n) (an_assignment a) = untouched _
+step_holds p s (delete_association n) (an_association a) = has_less association_fields association_fields_lem association_fields (λ b. same (association_fields n) (association_fields b)) p.associations
       (one_record association_fields n) (parts p s).rest.associations.order a
-  | a_prohibition b ↦ untouched _
-  | a_process q ↦ untouched _
-]
-step_holds p s (create_prohibition n) i = elim i [
-  | an_element e ↦ untouched _
-  | an_assignment a ↦ untouched _
-  | an_association a ↦ untouched _
-  | a_prohibition b ↦ has_put prohibition_fields prohibition_fields n p.prohibitions b
-  | a_process q ↦ untouched _
-]
-step_holds p s (delete_prohibition n) i = elim i [
-  | an_element e ↦ untouched _
-  | an_assignment a ↦ untouched _
-  | an_association a ↦ untouched _
-  | a_prohibition b ↦ has_less prohibition_fields prohibition_fields_lem prohibition_fields (λ c. same (prohibition_fields n) (prohibition_fields c)) p.prohibitions
+step_holds p s (delete_association n) (a_prohibition b) = untouched _
+step_holds p s (delete_association n) (a_process q) = untouched _
+step_holds p s (create_prohibition n) (an_element e) = untouched _
+step_holds p s (create_prohibition n) (an_assignment a) = untouched _
+step_holds p s (create_prohibition n) (an_association a) = untouched _
+step_holds p s (create_prohibition n) (a_prohibition b) = has_put prohibition_fields prohibition_fields n p.prohibitions b
+step_holds p s (create_prohibition n) (a_process q) = untouched _
+step_holds p s (delete_prohibition n) (an_element e) = untouched _
+step_holds p s (delete_prohibition n) (an_assignment a) = untouched _
+step_holds p s (delete_prohibition n) (an_association a) = untouched _
+step_holds p s (delete_prohibition n) (a_prohibition b) = has_less prohibition_fields prohibition_fields_lem prohibition_fields (λ c. same (prohibition_fields n) (prohibition_fields c)) p.prohibitions
       (one_record prohibition_fields n) (parts p s).rest.prohibitions.order b
-  | a_process q ↦ untouched _
-]
-step_holds p s (start_process n u) i = elim i [
-  | an_element e ↦ untouched _
-  | an_assignment a ↦ untouched _
-  | an_association a ↦ untouched _
-  | a_prohibition b ↦ untouched _
-  | a_process q ↦ has_put process_fields process_key (record { id = n; owner = u }) p.processes q
-]
-step_holds p s (end_process n) i = elim i [
-  | an_element e ↦ untouched _
-  | an_assignment a ↦ untouched _
-  | an_association a ↦ untouched _
-  | a_prohibition b ↦ untouched _
-  | a_process q ↦ has_less process_fields process_fields_lem process_key (λ r. eqb n r.id) p.processes (one_id owners n) (parts p s).rest.processes.order q
-]
+step_holds p s (delete_prohibition n) (a_process q) = untouched _
+step_holds p s (start_process n u) (an_element e) = untouched _
+step_holds p s (start_process n u) (an_assignment a) = untouched _
+step_holds p s (start_process n u) (an_association a) = untouched _
+step_holds p s (start_process n u) (a_prohibition b) = untouched _
+step_holds p s (start_process n u) (a_process q) = has_put process_fields process_key (record { id = n; owner = u }) p.processes q
+step_holds p s (end_process n) (an_element e) = untouched _
+step_holds p s (end_process n) (an_assignment a) = untouched _
+step_holds p s (end_process n) (an_association a) = untouched _
+step_holds p s (end_process n) (a_prohibition b) = untouched _
+step_holds p s (end_process n) (a_process q) = has_less process_fields process_fields_lem process_key (λ r. eqb n r.id) p.processes (one_id owners n) (parts p s).rest.processes.order q
 
 -- After any sequence of commands the policy holds exactly what was put and not since removed.
 pub holds_exactly : (p : Policy) → Sound p → (cs : List Command) → all_of fits cs ≡ true → (i : Item) → holds (run p cs) i ≡ stands (holds p) (accepted_of p cs) i

@@ -91,6 +91,7 @@ module _ {A B : Type 0} (f : A → List B) where
   unfolding joined
   in_joined {l = a ∷ l} first i = in_left (joined f l) i
   in_joined {l = c ∷ l} (later j) i = in_right (f c) (in_joined j i)
+  in_joined {a = a} {b = b} {l = []} never i = elim never [ ]
 
   -- rising parts, of a rising list, joined
   pub rising_joined : (key : A → List ℕ) (key' : B → List ℕ) → ((a : A) → rising key' (f a) ≡ true)
