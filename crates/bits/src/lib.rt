@@ -1,4 +1,6 @@
 // Numbers of up to 32 bits in bytes, each byte filled from the most significant bit: read and written at a place.
+#![tactic(auto)]
+
 ghost use Rattle.std.specs.Prelude.{◌≡◌, ◌+◌, ◌*◌, ◌/◌, ◌%◌, ◌^◌, ◌<◌, ◌≤◌, length};
 ghost use Rattle.model.specs.Bits.{bits_of};
 ghost use Rattle.bits.specs.Cursor.{reading, told, There, Taken, Written};
