@@ -1,4 +1,6 @@
 // Groups of records of any width in lent words: where a record stands, and putting one in and taking some out with every word determined.
+#![tactic(auto)]
+
 ghost use Rattle.std.specs.Prelude.{◌≡◌, ◌+◌, ◌*◌, ◌≤◌, ◌<◌, length, take, drop, get_or, replicate};
 ghost use Rattle.model.specs.Lists.{before, same};
 ghost use Rattle.group.specs.Group.{records, laid, first_of, begins, inserted_at, removed_at, with_record, without_record, Fits};

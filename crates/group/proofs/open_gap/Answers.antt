@@ -1,0 +1,12 @@
+-- `group::open_gap` meets its contract. Invariant: the words from the i-th on are moved. Assumes nothing.
+use Rattle.group.proofs.Moves.{moved_none, moved_more, moved_all}
+use Rattle.group.proofs.open_gap.Goals as goal
+
+pub loop-i-init : goal.loop-i-init
+loop-i-init c = search moved_none
+
+pub loop-i-preserved : goal.loop-i-preserved
+loop-i-preserved c = search moved_more
+
+pub returns : goal.returns
+returns c = search moved_all
