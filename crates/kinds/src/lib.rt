@@ -1,4 +1,6 @@
 // Kinds of elements: which numbers are kinds, which are those of attributes, and which element may be assigned to which.
+#![tactic(auto)]
+
 ghost use Rattle.std.specs.Prelude.{◌≡◌, ◌||◌, eqb};
 ghost use Rattle.model.specs.Policy.{class, is_kind, is_attribute_kind, allowed};
 

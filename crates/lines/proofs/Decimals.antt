@@ -47,6 +47,7 @@ digit_alone {d} m h i = go (in_cons i)
   where
     go : (d ≡ 48 + m) ⊎ In d [] → (48 ≤ d) × (d ≤ 57)
     go (inl e) = omega arith
+    go (mathlib.Core.Logic.inr never) = elim never [ ]
 
 -- each of them is one of the ten digits
 pub digits_digits : (most n : ℕ) {d : ℕ} → In d (digits most n) → (48 ≤ d) × (d ≤ 57)
@@ -57,6 +58,7 @@ digits_digits (suc most) n {d} i = elim (dec_lt n 10) [
       let k : 10 ≤ n = omega arith in
       ⊎_elim (λ j. digits_digits most (n / 10) j) (λ j. digit_alone (n % 10) (omega arith) j) (in_append (digits most (n / 10)) (rw (digits_more most n k) at i))
 ]
+digits_digits zero n {d = d} i = elim i [ ]
 
 -- a number that may have a digit has one
 pub digits_some : (most n : ℕ) → 0 < most → 0 < length (digits most n)
@@ -64,6 +66,7 @@ digits_some (suc most) n h = elim (dec_lt n 10) [
   | yes l ↦ rw (digits_one most n l) (omega arith)
   | no l ↦ let k : 10 ≤ n = omega arith in rw (digits_more most n k, length-append (digits most (n / 10)) ((48 + n % 10) ∷ [])) (omega arith)
 ]
+digits_some zero n h = elim h [ ]
 
 -- the first of them is 0 only of the number 0
 first_digit : (most n : ℕ) → n < 10 ^ most → get_or (digits most n) 0 0 ≡ 48 → n ≡ 0

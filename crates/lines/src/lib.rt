@@ -1,4 +1,6 @@
 // Lines of text: a letter, and numbers in decimal, each behind a space.
+#![tactic(auto)]
+
 ghost use Rattle.std.specs.Prelude.{[], ◌∷◌, ◌+◌, ◌*◌, ◌≤◌, length};
 ghost use Rattle.model.specs.Desk.{digits, numbers, line};
 ghost use Rattle.lines.specs.Typing.{Typed};

@@ -1,4 +1,6 @@
 // The working memory as words: which memory holds a table, and each field of the policy that it is.
+#![tactic(auto)]
+
 ghost use Rattle.std.specs.Prelude.{◌≡◌, ◌&&◌, ◌+◌, ◌≤◌, ◌<◌, length, replicate};
 ghost use Rattle.model.specs.Policy.{is_element_id, is_process_id, kind_of, is_there, user_of, is_assigned};
 ghost use Rattle.table.specs.Layout.{word, assignment_count, association_count, prohibition_count, prohibition_start};
