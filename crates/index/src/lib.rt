@@ -1,4 +1,6 @@
 // The containment index of the table: a bit for each two elements, 1 where both are there and the one is within the other.
+#![tactic(auto)]
+
 ghost use Rattle.std.specs.Prelude.{◌≡◌, ◌<◌, length};
 ghost use Rattle.model.specs.Lists.{same};
 ghost use Rattle.model.specs.Index.{index_of, bit_at};

@@ -1,4 +1,6 @@
 // How many bits the fields of an image take, all counts taken as written, and whether the image has just as many bytes.
+#![tactic(auto)]
+
 ghost use Rattle.std.specs.Prelude.{◌≡◌, ◌+◌, ◌*◌, ◌^◌, ◌≤◌, ◌<◌, length};
 ghost use Rattle.model.specs.Bits.{bits_of};
 ghost use Rattle.model.specs.Image.{other_form};

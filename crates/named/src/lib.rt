@@ -1,4 +1,6 @@
 // What names an element or a process: assignments, associations, prohibitions and processes.
+#![tactic(auto)]
+
 ghost use Rattle.std.specs.Prelude.{◌≡◌, ◌||◌, ◌≤◌, ◌<◌, eqb};
 ghost use Rattle.model.specs.Lists.{member};
 ghost use Rattle.model.specs.Sound.{listed};

@@ -1,4 +1,6 @@
 // Requests: the operation table, and which requests are refused.
+#![tactic(auto)]
+
 ghost use Rattle.std.specs.Prelude.{◌≡◌, ◌&&◌, ◌≤◌, ◌<◌};
 ghost use Rattle.model.specs.Policy.{is_process_id};
 ghost use Rattle.model.specs.Request.{is_operation, bad_arguments, absent_arguments, arguments_of, kinds_of, absent, mismatched};

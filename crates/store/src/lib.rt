@@ -1,4 +1,6 @@
 // The working memory with one record more or less.
+#![tactic(auto)]
+
 ghost use Rattle.std.specs.Prelude.{◌≡◌, false, ◌≤◌, ◌<◌};
 ghost use Rattle.model.specs.Policy.{is_assigned, has_association, has_prohibition};
 ghost use Rattle.table.specs.View.{policy_of};

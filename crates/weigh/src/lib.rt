@@ -1,4 +1,6 @@
 // How many bytes the image of a table takes.
+#![tactic(auto)]
+
 ghost use Rattle.std.specs.Prelude.{◌≡◌, ◌<◌, length};
 ghost use Rattle.model.specs.Bits.{digit};
 ghost use Rattle.model.specs.Image.{image_bits, image_of};

@@ -1,0 +1,5 @@
+use Rattle.index.proofs.Answered.{compared}
+use Rattle.index.proofs.is_same.Goals as goal
+
+pub returns : goal.returns
+returns c = search compared

@@ -1,0 +1,12 @@
+use Rattle.index.proofs.Seeds.{seeded_none, seeded_more, seeded}
+use Prim.Native.Nat.{◌-◌}
+use Rattle.index.proofs.start.Goals as goal
+
+pub loop-x-init : goal.loop-x-init
+loop-x-init c = search seeded_none
+
+pub loop-x-preserved : goal.loop-x-preserved
+loop-x-preserved c = search seeded_more
+
+pub returns : goal.returns
+returns c = search seeded

@@ -1,0 +1,10 @@
+use Prim.Native.Nat.{◌-◌}
+use Rattle.weigh.proofs.Tallied.{TallyTo}
+use Rattle.weigh.proofs.Present.{process_tally}
+use Rattle.weigh.proofs.process_count.Given as goal
+
+abbrev pub invariant-loop-i : goal.invariant-loop-i
+invariant-loop-i l = TallyTo (process_tally l.mem) 256 l.i l.n
+
+abbrev pub decreases-loop-i : goal.decreases-loop-i
+decreases-loop-i l = 256 - l.i
