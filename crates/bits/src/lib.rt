@@ -6,20 +6,20 @@ ghost use Rattle.model.specs.Bits.{bits_of};
 ghost use Rattle.bits.specs.Cursor.{reading, told, There, Taken, Written};
 
 // A place in the bits.
-#[derive(Drop)]
+#[derive(Clone, Copy)]
 pub struct Cursor {
     pub at: usize,
 }
 
 // A number, and the place behind it.
-#[derive(Drop)]
+#[derive(Clone, Copy)]
 pub struct Bits {
     pub value: u32,
     pub next: Cursor,
 }
 
 // A number and the place behind it, or that the bits end before it does.
-#[derive(Drop)]
+#[derive(Clone, Copy)]
 pub enum Fetched {
     Got(u32, Cursor),
     Cut,

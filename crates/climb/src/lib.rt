@@ -10,7 +10,7 @@ ghost use Rattle.climb.specs.Queued.{Container, Listed, Grown, Front, Closed, Cl
 ghost use Rattle.climb.specs.Answers.{told};
 
 // What the plain containment call answers.
-#[derive(Drop)]
+#[derive(Clone, Copy)]
 pub enum Containment {
     Within,
     Outside,

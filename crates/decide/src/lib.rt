@@ -19,7 +19,7 @@ use request::Request;
 use rule::Asking;
 
 // What a decision answers.
-#[derive(Drop)]
+#[derive(Clone, Copy)]
 pub enum Decision {
     Grant(u32),
     Deny,

@@ -39,14 +39,14 @@ const DENY: u8 = 68;
 const REFUSED: u8 = 82;
 
 // How many bytes were printed, or a refusal number.
-#[derive(Drop)]
+#[derive(Clone, Copy)]
 pub enum Printed {
     Length(usize),
     Refused(u32),
 }
 
 // An accepted image: how many bytes were printed, and where the requests start. A refused image: how many bytes were printed. Or a refusal number.
-#[derive(Drop)]
+#[derive(Clone, Copy)]
 pub enum Opened {
     Open(usize, usize),
     Closed(usize),

@@ -15,7 +15,7 @@ use decide::Decision;
 use request::Request;
 
 // What the explanation answers: the alternative that grants and the number of rows, or the number of rows of a deny, or a refusal.
-#[derive(Drop)]
+#[derive(Clone, Copy)]
 pub enum Explanation {
     Grant(u32, u32),
     Deny(u32),

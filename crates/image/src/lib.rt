@@ -9,7 +9,7 @@ ghost use Rattle.image.specs.Answers.{load_table, table_refusal, table_end, Read
 use table::Outcome;
 
 // What save answers: how many bytes the image takes, or a refusal number.
-#[derive(Drop)]
+#[derive(Clone, Copy)]
 pub enum Saved {
     Length(usize),
     Refused(u32),

@@ -13,7 +13,7 @@ ghost use Rattle.index.specs.Passes.{RowSeeded, Good, Stepped, Climbed, Passed, 
 ghost use Rattle.index.specs.Answers.{left, matched};
 
 // Whether an index is the table's.
-#[derive(Drop)]
+#[derive(Clone, Copy)]
 pub enum Matching {
     Same,
     Other,

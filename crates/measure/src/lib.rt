@@ -27,7 +27,7 @@ const PROCESS: usize = 17;
 const LONGEST: usize = 17925;
 
 // How many of each there are, as the head says.
-#[derive(Drop)]
+#[derive(Clone, Copy)]
 pub struct Counts {
     pub elements: usize,
     pub assignments: usize,

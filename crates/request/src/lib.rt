@@ -10,7 +10,7 @@ ghost use Rattle.request.specs.Sets.{kind_sets, capabilities, is_bad, is_absent,
 ghost use Rattle.request.specs.Asks.{request_of, refusal_of};
 
 // A request: the process, the operation, and three arguments always; those that the operation does not use are 0.
-#[derive(Drop)]
+#[derive(Clone, Copy)]
 pub struct Request {
     pub process: u32,
     pub operation: u32,

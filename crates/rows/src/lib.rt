@@ -10,7 +10,7 @@ use request::Request;
 
 // A row of the explanation.
 #[repr(C)]
-#[derive(Drop)]
+#[derive(Clone, Copy)]
 pub struct Row {
     pub alternative: u32,
     pub argument: u32,

@@ -10,7 +10,7 @@ ghost use Rattle.rule.specs.Sight.{mark_at, seen};
 ghost use Rattle.rule.specs.Parts.{class_of, offers, any_listed};
 
 // One right asked over one element: the process and its user, the element and the right; and which row is the user's, which the element's.
-#[derive(Drop)]
+#[derive(Clone, Copy)]
 pub struct Asking {
     pub process: u32,
     pub user: u32,

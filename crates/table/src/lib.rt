@@ -39,7 +39,7 @@ pub const ASSOCIATIONS: usize = 2776;
 pub const PROHIBITIONS: usize = 5776;
 
 // What a call that changes something answers.
-#[derive(Drop)]
+#[derive(Clone, Copy)]
 pub enum Outcome {
     Done,
     Refused(u32),
