@@ -1,4 +1,6 @@
 // Containment by chains of assignments: all that an element is within, by a breadth-first climb over the table.
+#![tactic(auto)]
+
 ghost use Rattle.std.specs.Prelude.{◌≡◌, ◌+◌, ◌*◌, ◌≤◌, ◌<◌, length};
 ghost use Rattle.model.specs.Contain.{contained};
 ghost use Rattle.model.specs.Refusal.{accepted};

@@ -1,5 +1,7 @@
 // Whether what a table's records name is there and of the right kinds, no chain of assignments returns to its start, and each element but a class
 // is assigned.
+#![tactic(auto)]
+
 ghost use Rattle.std.specs.Prelude.{◌≡◌, true, not, ◌≤◌, ◌<◌};
 ghost use Rattle.model.specs.Lists.{all_of};
 ghost use Rattle.model.specs.Sound.{assignment_pairs, association_pairs, prohibition_pairs, process_pairs, pairs_fit, no_cycle, all_assigned};

@@ -1,4 +1,6 @@
 // The image of a table, written into lent bytes.
+#![tactic(auto)]
+
 ghost use Rattle.std.specs.Prelude.{◌≡◌, false, ◌++◌, ◌+◌, ◌*◌, ◌-◌, ◌<◌, length, replicate};
 ghost use Rattle.model.specs.Image.{element_bits, assignment_bits, association_bits, prohibition_bits, process_bits, group_bits, head_bits, image_bits, image_of};
 ghost use Rattle.table.specs.View.{policy_of};

@@ -1,4 +1,6 @@
 // What a prohibition that a command is given can be refused for. Its lists are lent and may be of any length.
+#![tactic(auto)]
+
 ghost use Rattle.std.specs.Prelude.{◌≡◌, [], ◌≤◌, ◌<◌};
 ghost use Rattle.model.specs.Lists.{all_of, rising_ids};
 ghost use Rattle.model.specs.Policy.{is_element_id, is_sort, is_there, has_prohibition};

@@ -1,4 +1,6 @@
 // The groups of a table, written into lent bytes as an image writes them.
+#![tactic(auto)]
+
 ghost use Rattle.std.specs.Prelude.{◌+◌, ◌*◌, ◌≤◌, ◌<◌, length};
 ghost use Rattle.model.specs.Image.{element_bits, assignment_bits, association_bits, prohibition_bits, process_bits, group_bits};
 ghost use Rattle.table.specs.Layout.{prohibition_count};

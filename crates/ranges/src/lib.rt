@@ -1,4 +1,6 @@
 // Whether a table breaks a rule that can be seen from the fields of its records alone: a field out of range, or a group that does not rise.
+#![tactic(auto)]
+
 ghost use Rattle.std.specs.Prelude.{◌≡◌, ◌&&◌, ◌+◌, ◌*◌, ◌≤◌, ◌<◌, length};
 ghost use Rattle.model.specs.Lists.{all_of, rising};
 ghost use Rattle.model.specs.Policy.{is_right_set, prohibition_fields};

@@ -1,5 +1,7 @@
 // The parts of the rule, for one right asked over one element: a class, an association that offers it, a prohibition that restricts. What is within
 // what comes from rows: the bits of an index, or the marks of climbs, a row for the user and one for each element that is asked about.
+#![tactic(auto)]
+
 ghost use Rattle.std.specs.Prelude.{◌≡◌, true, false, ◌+◌, ◌≤◌, ◌<◌};
 ghost use Rattle.model.specs.Policy.{has_right};
 ghost use Rattle.model.specs.Rule.{disjunctive_range, conjunctive_range, in_range, is_subject, restricts, restricted_by};

@@ -1,4 +1,6 @@
 // Whether the records of an image can be laid into the words of a table.
+#![tactic(auto)]
+
 ghost use Rattle.std.specs.Prelude.{◌≡◌, ◌&&◌, leb, ◌+◌, ◌*◌, ◌<◌, drop};
 ghost use Rattle.model.specs.Bits.{bits_of};
 ghost use Rattle.model.specs.Image.{read_element, read_prohibition, read_process, read_group, policy_in};

@@ -1,4 +1,6 @@
 // The records of an image, laid into the words of a table.
+#![tactic(auto)]
+
 ghost use Rattle.std.specs.Prelude.{◌≡◌, true, ◌+◌, ◌*◌, ◌/◌, ◌%◌, ◌≤◌, ◌<◌, length, drop};
 ghost use Rattle.model.specs.Bits.{bits_of};
 ghost use Rattle.model.specs.Image.{read_element, read_assignment, read_association, read_ids, read_prohibition, read_process, read_group, policy_in};

@@ -1,0 +1,22 @@
+use Prim.Native.Nat.{◌-◌}
+use mathlib.Core.Logic.{⊎_elim}
+use Rattle.links.proofs.Placing.{child_most, next_fits, placed_none, placed_fails, placed_same, placed_more, placed_all}
+use Rattle.links.proofs.are_all_assigned.Goals as goal
+
+pub loop-i-init : goal.loop-i-init
+loop-i-init c = search placed_none
+
+pub are_free-requires-clause-to_bound : goal.are_free-requires-clause-to_bound
+are_free-requires-clause-to_bound c = search child_most
+
+pub returns-then-not-are_free : goal.returns-then-not-are_free
+returns-then-not-are_free c = search placed_fails
+
+pub overflow_add-x : goal.overflow_add-x
+overflow_add-x c = record { fits = search next_fits }
+
+pub loop-i-preserved : goal.loop-i-preserved
+loop-i-preserved c = ⊎_elim (λ w. search placed_more) (λ w. search placed_same) c.if-x-c.branch
+
+pub returns : goal.returns
+returns c = search placed_all

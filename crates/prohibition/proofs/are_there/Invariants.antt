@@ -1,0 +1,12 @@
+use Prim.Native.Nat.{◌-◌}
+use lib.ListN.{length}
+use Rattle.model.specs.Policy.{is_there}
+use Rattle.table.specs.View.{policy_of}
+use Rattle.prohibition.proofs.Passed.{PassedTo}
+use Rattle.prohibition.proofs.are_there.Given as goal
+
+abbrev pub invariant-loop-i : goal.invariant-loop-i
+invariant-loop-i l = PassedTo (is_there (policy_of l.mem)) l.list l.i
+
+abbrev pub decreases-loop-i : goal.decreases-loop-i
+decreases-loop-i l = length l.list - l.i

@@ -1,0 +1,20 @@
+-- `screen::are_lists_short` meets its contract: the answer for all prohibitions is that for those from the place p on.
+-- Assumes nothing.
+use Prim.Native.Nat.{◌-◌}
+use Rattle.screen.proofs.Short.{short_start, many_inclusions, many_exclusions, both_few, all_short_lem}
+use Rattle.screen.proofs.are_lists_short.Goals as goal
+
+pub loop-i-init : goal.loop-i-init
+loop-i-init c = search short_start
+
+pub returns-then-inclusions-gt-MOST_LISTED : goal.returns-then-inclusions-gt-MOST_LISTED
+returns-then-inclusions-gt-MOST_LISTED c = search many_inclusions
+
+pub returns-then-exclusions-gt-MOST_LISTED : goal.returns-then-exclusions-gt-MOST_LISTED
+returns-then-exclusions-gt-MOST_LISTED c = search many_exclusions
+
+pub loop-i-preserved : goal.loop-i-preserved
+loop-i-preserved c = search both_few
+
+pub returns : goal.returns
+returns c = search all_short_lem

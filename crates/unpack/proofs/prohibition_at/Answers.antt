@@ -1,0 +1,26 @@
+-- `unpack::prohibition_at` meets its contract. Assumes nothing.
+use native.Mathlib.Omega.{arith}
+use Rattle.measure.specs.Places.{behind}
+use Rattle.unpack.proofs.Records.{few_ids, ids_room, record_read}
+use Rattle.unpack.proofs.prohibition_at.Goals as goal
+
+pub take-subject-requires : goal.take-subject-requires
+unfolding behind
+take-subject-requires c = omega arith
+
+pub take-rights-requires : goal.take-rights-requires
+unfolding behind
+take-rights-requires c = omega arith
+
+pub take-counts-requires : goal.take-counts-requires
+unfolding behind
+take-counts-requires c = omega arith
+
+pub unpack_ids-requires-clause-n_bound : goal.unpack_ids-requires-clause-n_bound
+unpack_ids-requires-clause-n_bound c = search few_ids
+
+pub unpack_ids-requires-clause-reaches : goal.unpack_ids-requires-clause-reaches
+unpack_ids-requires-clause-reaches c = record { few = omega arith; room = search (ids_room, c.take-counts.ensures) }
+
+pub returns : goal.returns
+returns c = search record_read

@@ -1,0 +1,11 @@
+-- `unpack::unpack_assignments` meets its contract. Invariant: the first i assignments are laid. Assumes nothing.
+use Prim.Native.Nat.{◌-◌}
+use Rattle.unpack.proofs.Laying.{Laying}
+use Rattle.unpack.proofs.Turns.{assignments_on}
+use Rattle.unpack.proofs.unpack_assignments.Given as goal
+
+abbrev pub invariant-loop-i : goal.invariant-loop-i
+invariant-loop-i l = Laying assignments_on 18 2000 8192 l.s l.at l.n l.initial.mem l.p l.i l.mem
+
+abbrev pub decreases-loop-i : goal.decreases-loop-i
+decreases-loop-i l = l.n - l.i

@@ -1,0 +1,25 @@
+-- `unpack::unpack_prohibitions` meets its contract. Invariant: the first i prohibitions are laid, and those left lie within the bits and have
+-- short lists. Assumes nothing.
+use Prim.Native.Nat.{◌-◌}
+use native.Mathlib.Omega.{arith}
+use lib.ListN.{length-set}
+use Rattle.unpack.proofs.Prohibitions.{passing_none, next_reaches, next_short, passing_more, passing_all}
+use Rattle.unpack.proofs.unpack_prohibitions.Goals as goal
+
+pub loop-i-init : goal.loop-i-init
+loop-i-init c = search passing_none
+
+pub prohibition_at-rec-requires-clause-reaches : goal.prohibition_at-rec-requires-clause-reaches
+prohibition_at-rec-requires-clause-reaches c = search next_reaches
+
+pub prohibition_at-rec-requires-clause-s_value : goal.prohibition_at-rec-requires-clause-s_value
+prohibition_at-rec-requires-clause-s_value c = search next_short
+
+pub loop-i-preserved : goal.loop-i-preserved
+loop-i-preserved c = search passing_more
+
+pub shape_of-mem : goal.shape_of-mem
+shape_of-mem c = simp length-set (omega arith)
+
+pub returns : goal.returns
+returns c = search passing_all
