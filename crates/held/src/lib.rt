@@ -1,4 +1,6 @@
 // Whether a right is held over an element, and what lacks for it: in each class of the element some association must give it.
+#![tactic(auto)]
+
 ghost use Rattle.std.specs.Prelude.{◌≡◌, true, false, ◌+◌, ◌*◌, ◌/◌, ◌≤◌, ◌<◌, length};
 ghost use Rattle.model.specs.Contain.{contained};
 ghost use Rattle.model.specs.Index.{bit_at};

@@ -1,4 +1,6 @@
 // The refusal number of each command, 0 where it is accepted: the lines of 01, lowest first. Of the index only the length is asked.
+#![tactic(auto)]
+
 ghost use Rattle.std.specs.Prelude.{◌≡◌, not, ◌||◌, ◌≤◌, ◌<◌, eqb};
 ghost use Rattle.model.specs.Policy.{is_element_id, is_process_id, is_kind, allowed, kind_of, is_there, is_process, is_assigned, has_association, has_prohibition};
 ghost use Rattle.model.specs.Contain.{contained};

@@ -1,5 +1,7 @@
 // Runs a script of steps on a table, its index and some bits, and prints what the steps answer. A step is nine bytes: a letter, two numbers of two
 // bytes and one of four, the high byte first. second/ has the script's meaning and makes the stored input and output.
+#![tactic(auto)]
+
 ghost use Rattle.std.specs.Prelude.{◌≡◌, ◌<◌, length};
 ghost use Rattle.table.specs.Facts.{Table};
 

@@ -25,6 +25,7 @@ module _ {A : Type 0} (key : A → List ℕ) where
   rising_behind : {b : A} (l : List A) (a : A) (m : List A) → rising key (l ++ (a ∷ m)) ≡ true → In b l → before (key b) (key a) ≡ true
   rising_behind {b} (c ∷ l) a m e first = rising_first key b (l ++ (a ∷ m)) e (in_right l first)
   rising_behind (c ∷ l) a m e (later i) = rising_behind l a m (rising_rest key c (l ++ (a ∷ m)) e) i
+  rising_behind {b = b} [] a m e never = elim never [ ]
 
   -- so it has another key
   other_key : {b : A} (l : List A) (a : A) (m : List A) → rising key (l ++ (a ∷ m)) ≡ true → In b l → key b ≡ key a → ⊥

@@ -1,7 +1,7 @@
 use Prim.Native.Nat.{◌-◌}
-use mathlib.Core.Logic.{⊎_elim}
 use Rattle.links.proofs.Placing.{child_most, next_fits, placed_none, placed_fails, placed_same, placed_more, placed_all}
 use Rattle.links.proofs.are_all_assigned.Goals as goal
+use Rattle.links.proofs.are_all_assigned.Goals.{then-x-c+else-not-are_free, else-x-c}
 
 pub loop-i-init : goal.loop-i-init
 loop-i-init c = search placed_none
@@ -16,7 +16,7 @@ pub overflow_add-x : goal.overflow_add-x
 overflow_add-x c = record { fits = search next_fits }
 
 pub loop-i-preserved : goal.loop-i-preserved
-loop-i-preserved c = ⊎_elim (λ w. search placed_more) (λ w. search placed_same) c.if-x-c.branch
+loop-i-preserved c = elim c.if-x-c.branch [ then-x-c+else-not-are_free w ↦ search placed_more | else-x-c w ↦ search placed_same ]
 
 pub returns : goal.returns
 returns c = search placed_all
