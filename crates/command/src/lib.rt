@@ -1,6 +1,8 @@
 // The eleven commands. Each is judged on the table and the length of the index; a refused one writes nothing. A command that can change containment
 // builds the index anew, whatever bytes it was lent; the others leave the index as it was. What is stored is never one too many: a command that is not
 // refused has room, so that the store's own refusal cannot occur.
+#![tactic(auto)]
+
 ghost use Rattle.model.specs.Command.{create_class, create_element, assign, deassign, delete_element, create_association, delete_association, create_prohibition, delete_prohibition, start_process, end_process};
 ghost use Rattle.store.specs.ProhibitionWords.{prohibition};
 ghost use Rattle.command.specs.Commanded.{Commanded};

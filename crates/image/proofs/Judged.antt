@@ -42,6 +42,7 @@ sizes_first : (s : List ℕ) {n : ℕ} → First n (size_lines s) → First n (i
 unfolding size_lines misfits
 sizes_first s (now e h) = now e h
 sizes_first s (next h (now e k)) = next h (now e k)
+sizes_first s {n = n} (next h (next _ never)) = elim never [ ]
 
 -- nothing is refused: the number is 0
 nothing : {n m : ℕ} → n ≡ m → n ≤ 0 → m ≡ 0

@@ -1,4 +1,6 @@
 // The policy as bytes: load makes a table of an image, save makes an image of a table.
+#![tactic(auto)]
+
 ghost use Rattle.std.specs.Prelude.{◌≡◌, length, replicate};
 ghost use Rattle.model.specs.Calls.{save as saving};
 ghost use Rattle.table.specs.View.{memory};

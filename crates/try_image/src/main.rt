@@ -1,5 +1,7 @@
 // Loads and saves images as a script says, and prints what that answers and leaves. A step is thirteen bytes: a letter and three numbers of four
 // bytes, the high byte first; an image follows its step. second/ has the script's meaning and makes the stored input and output.
+#![tactic(auto)]
+
 ghost use Rattle.std.specs.Prelude.{◌≡◌, ◌+◌, ◌≤◌, ◌<◌, length};
 ghost use Rattle.io.specs.Counts.{IsPrefixLen};
 

@@ -1,12 +1,7 @@
 use Rattle.held.proofs.Turns.{marked_start, marked_class, marked_end, marked_more, marked_given, marked_lacks}
 use Prim.Native.Nat.{◌-◌}
 use borrow.Author.Rules.{rules}
-use Rattle.held.proofs.lack_by_climb.Tie as tie
 use Rattle.held.proofs.lack_by_climb.Goals as goal
-
-association_count_requires :
-    tie.Need-association-count-requires invariant_loop decreases_loop invariant_classes decreases_classes
-association_count_requires c κs = search rules
 
 pub classes-init : goal.classes-init
 classes-init c = search marked_start

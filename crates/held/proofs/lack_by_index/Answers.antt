@@ -2,16 +2,7 @@ use Prim.Native.Nat.{◌-◌}
 use borrow.Author.Rules.{rules}
 use Rattle.held.proofs.Turns.{bit_start, bit_class, bit_end, bit_more, bit_given, bit_lacks}
 use native.Mathlib.Omega.{arith}
-use Rattle.held.proofs.lack_by_index.Tie as tie
 use Rattle.held.proofs.lack_by_index.Goals as goal
-
-association_count_requires :
-    tie.Need-association-count-requires invariant_loop decreases_loop invariant_classes decreases_classes
-association_count_requires c κs = search rules
-
-slice_aggregate_give_by_index :
-    tie.Need-slice-aggregate-give-by-index invariant_loop decreases_loop invariant_classes decreases_classes
-slice_aggregate_give_by_index c = omega arith
 
 pub classes-init : goal.classes-init
 classes-init c = search bit_start

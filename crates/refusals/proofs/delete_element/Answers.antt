@@ -1,3 +1,4 @@
+use Rattle.std.proofs.Common.{ap, not}
 use Rattle.model.specs.Command.{command_lines}
 use Rattle.table.proofs.Asked.{tested}
 use Rattle.refusals.specs.Numbers.{refusal_of}
@@ -25,7 +26,7 @@ pub is_in_use-requires-clause-table : goal.is_in_use-requires-clause-table
 is_in_use-requires-clause-table c = search tested
 
 pub is_in_use-requires-clause-le_x : goal.is_in_use-requires-clause-le_x
-is_in_use-requires-clause-le_x c = there_positive _ _ c.is_there.ensures c.if-not-is_there.false
+is_in_use-requires-clause-le_x c = there_positive _ _ c.is_there.ensures (ap not c.if-not-is_there.false)
 
 pub returns-then-is_in_use : goal.returns-then-is_in_use
 unfolding refusal_of command_lines
