@@ -1,5 +1,7 @@
 // The decision: granted if one alternative has each of its rights held over its argument and not restricted. The plain decision climbs, once from
 // the user and once from each argument; the indexed one takes containment from the bits of an index alone.
+#![tactic(auto)]
+
 ghost use Rattle.std.specs.Prelude.{◌≡◌, not, ◌||◌, ◌<◌, length};
 ghost use Rattle.model.specs.Policy.{has_right, user_of};
 ghost use Rattle.model.specs.Refusal.{accepted};

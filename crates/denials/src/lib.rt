@@ -1,5 +1,7 @@
 // The rows of a deny: for each alternative its first failing argument and right, and why: not held, or restricted through the user, the process or
 // an attribute.
+#![tactic(auto)]
+
 ghost use Rattle.std.specs.Prelude.{◌≡◌, false, ◌<◌};
 ghost use Rattle.table.specs.Layout.{prohibition_count};
 ghost use Rattle.table.specs.View.{policy_of, prohibition_at};

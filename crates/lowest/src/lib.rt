@@ -1,4 +1,6 @@
 // The lowest association that authorizes a right over an element, in each class of the element.
+#![tactic(auto)]
+
 ghost use Rattle.std.specs.Prelude.{◌≡◌, true, false, cond, ◌+◌, ◌≤◌, ◌<◌, eqb, length};
 ghost use Rattle.table.specs.Layout.{association_count};
 ghost use Rattle.table.specs.Facts.{Table};

@@ -1,5 +1,7 @@
 // Runs a script of commands on a table and its index, and prints what they answer and what they leave. A step is thirteen bytes: a letter and
 // three numbers of four bytes, the high byte first. second/ has the script's meaning and makes the stored input and output.
+#![tactic(auto)]
+
 ghost use Rattle.std.specs.Prelude.{◌≡◌, ◌+◌, ◌<◌, ◌≤◌, length};
 ghost use Rattle.io.specs.Counts.{IsPrefixLen};
 
@@ -8,7 +10,7 @@ use table::Outcome;
 
 // How many words of the memory and bytes of the index are lent, the form of the prohibition that commands are given, how many inclusions it has,
 // and how many ids in both lists together.
-#[derive(Drop)]
+#[derive(Clone, Copy)]
 struct Kept {
     words: u32,
     bytes: u32,
@@ -18,7 +20,7 @@ struct Kept {
 }
 
 // A step, or a command of the year.
-#[derive(Drop)]
+#[derive(Clone, Copy)]
 struct Order {
     letter: u8,
     a: u32,

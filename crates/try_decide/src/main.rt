@@ -11,14 +11,14 @@ use request::Request;
 use table::Outcome;
 
 // How many words of the memory and bytes of the index are lent.
-#[derive(Drop)]
+#[derive(Clone, Copy)]
 struct Lent {
     words: u32,
     bytes: u32,
 }
 
 // A prohibition that is being made.
-#[derive(Drop)]
+#[derive(Clone, Copy)]
 struct Draft {
     sort: u32,
     form: u32,
@@ -28,7 +28,7 @@ struct Draft {
 }
 
 // What a script keeps from step to step, besides the memory and the index.
-#[derive(Drop)]
+#[derive(Clone, Copy)]
 struct Kept {
     lent: Lent,
     request: Request,

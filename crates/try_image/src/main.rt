@@ -9,7 +9,7 @@ use image::Saved;
 use table::Outcome;
 
 // How many words of the memory and bytes of the room are lent, and how many bytes the image has.
-#[derive(Drop)]
+#[derive(Clone, Copy)]
 struct Kept {
     words: u32,
     bytes: u32,
@@ -17,7 +17,7 @@ struct Kept {
 }
 
 // A step.
-#[derive(Drop)]
+#[derive(Clone, Copy)]
 struct Order {
     letter: u8,
     a: u32,

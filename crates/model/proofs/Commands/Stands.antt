@@ -89,7 +89,7 @@ step_holds p s (create_class x) (an_association a) = untouched _
 step_holds p s (create_class x) (a_prohibition b) = untouched _
 step_holds p s (create_class x) (a_process q) = untouched _
 step_holds p s (create_element x k y) (an_element e) = has_put element_fields element_key (record { id = x; kind = k }) p.elements e
-      ∙ ap (λ t. t || holds p (an_element e) && true) (sym (or-false (same (x ∷ k ∷ []) (element_fields e))))
+    ∙ ap (λ t. t || holds p (an_element e) && true) (sym (or-false (same (x ∷ k ∷ []) (element_fields e))))
 step_holds p s (create_element x k y) (an_assignment a) = has_put assignment_fields assignment_fields (record { child = x; container = y }) p.assignments a
 step_holds p s (create_element x k y) (an_association a) = untouched _
 step_holds p s (create_element x k y) (a_prohibition b) = untouched _
@@ -101,7 +101,7 @@ step_holds p s (assign x y) (a_prohibition b) = untouched _
 step_holds p s (assign x y) (a_process q) = untouched _
 step_holds p s (deassign x y) (an_element e) = untouched _
 step_holds p s (deassign x y) (an_assignment a) = has_less assignment_fields assignment_fields_lem assignment_fields (is_pair x y) p.assignments (one_pair x y) (parts p s).rest.assignments.order a
-      ∙ ap (λ t. holds p (an_assignment a) && not t) (sym (pair_same x y a))
+    ∙ ap (λ t. holds p (an_assignment a) && not t) (sym (pair_same x y a))
 step_holds p s (deassign x y) (an_association a) = untouched _
 step_holds p s (deassign x y) (a_prohibition b) = untouched _
 step_holds p s (deassign x y) (a_process q) = untouched _
@@ -118,7 +118,7 @@ step_holds p s (create_association n) (a_process q) = untouched _
 step_holds p s (delete_association n) (an_element e) = untouched _
 step_holds p s (delete_association n) (an_assignment a) = untouched _
 step_holds p s (delete_association n) (an_association a) = has_less association_fields association_fields_lem association_fields (λ b. same (association_fields n) (association_fields b)) p.associations
-      (one_record association_fields n) (parts p s).rest.associations.order a
+    (one_record association_fields n) (parts p s).rest.associations.order a
 step_holds p s (delete_association n) (a_prohibition b) = untouched _
 step_holds p s (delete_association n) (a_process q) = untouched _
 step_holds p s (create_prohibition n) (an_element e) = untouched _
@@ -130,7 +130,7 @@ step_holds p s (delete_prohibition n) (an_element e) = untouched _
 step_holds p s (delete_prohibition n) (an_assignment a) = untouched _
 step_holds p s (delete_prohibition n) (an_association a) = untouched _
 step_holds p s (delete_prohibition n) (a_prohibition b) = has_less prohibition_fields prohibition_fields_lem prohibition_fields (λ c. same (prohibition_fields n) (prohibition_fields c)) p.prohibitions
-      (one_record prohibition_fields n) (parts p s).rest.prohibitions.order b
+    (one_record prohibition_fields n) (parts p s).rest.prohibitions.order b
 step_holds p s (delete_prohibition n) (a_process q) = untouched _
 step_holds p s (start_process n u) (an_element e) = untouched _
 step_holds p s (start_process n u) (an_assignment a) = untouched _
