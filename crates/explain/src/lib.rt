@@ -1,5 +1,7 @@
 // The explanation: it answers as the plain decision does and fills lent rows, here as numbers: alternative, argument, right, cause, number,
 // attribute, target, rights.
+#![tactic(auto)]
+
 ghost use Rattle.std.specs.Prelude.{◌≡◌, false, ◌-◌, ◌≤◌, get_or, []};
 ghost use Rattle.model.specs.Policy.{user_of};
 ghost use Rattle.model.specs.Contain.{contained};

@@ -24,10 +24,10 @@ unique = record {
   load = λ words image r s words' words'' e f. one_left e f;
   save = λ words bytes r s bytes' bytes'' e f. one_left e f;
   build_index = λ words bytes r s bytes' bytes'' e f. one_left e f;
-  is_index_lem = λ words bytes r s e f. e ∙ sym f;
+  is_index = λ words bytes r s e f. e ∙ sym f;
   contains = λ words x y r s e f. e ∙ sym f;
   decide = λ words q r s e f. e ∙ sym f;
-  decide_indexed_lem = λ words bytes q r s e f. e ∙ sym f;
+  decide_indexed = λ words bytes q r s e f. e ∙ sym f;
   explain = λ words q rows r s rows' rows'' e f. one_left e f;
   command = λ words bytes c r s words' words'' bytes' bytes'' e f. (e.code_is ∙ sym f.code_is, e.words ∙ sym f.words, e.index ∙ sym f.index);
 }
@@ -43,11 +43,11 @@ codes_tell = record {
       save_tells (save (memory words) bytes).answers (save (memory words₂) bytes₂).answers (save_occurs words bytes) (save_occurs words₂ bytes₂) (sym e.0 ∙ f.0);
   build_index = λ words bytes words₂ bytes₂ r bytes' bytes₂' e f.
       code_tells (build (memory words) bytes).answers (build (memory words₂) bytes₂).answers (build_numbered (memory words) bytes) (build_numbered (memory words₂) bytes₂) (sym e.0 ∙ f.0);
-  is_index_lem = λ words bytes words₂ bytes₂ r e f. yes_tells (is_index (memory words) bytes) (is_index (memory words₂) bytes₂) (sym e ∙ f);
+  is_index = λ words bytes words₂ bytes₂ r e f. yes_tells (is_index (memory words) bytes) (is_index (memory words₂) bytes₂) (sym e ∙ f);
   contains = λ words words₂ x y x₂ y₂ r e f. yes_tells (contains (memory words) x y) (contains (memory words₂) x₂ y₂) (sym e ∙ f);
   decide = λ words words₂ q q₂ r e f.
       decision_tells (decide (memory words) q) (decide (memory words₂) q₂) (decide_occurs (memory words) q) (decide_occurs (memory words₂) q₂) (sym e ∙ f);
-  decide_indexed_lem = λ words bytes words₂ bytes₂ q q₂ r e f.
+  decide_indexed = λ words bytes words₂ bytes₂ q q₂ r e f.
       decision_tells (decide_indexed (memory words) bytes q) (decide_indexed (memory words₂) bytes₂ q₂) (indexed_occurs (memory words) bytes q) (indexed_occurs (memory words₂) bytes₂ q₂) (sym e ∙ f);
   explain = λ words words₂ q q₂ rows rows₂ r rows' rows₂' e f.
       explain_tells (explaining (memory words) q rows).answers (explaining (memory words₂) q₂ rows₂).answers (explain_occurs words q rows) (explain_occurs words₂ q₂ rows₂) (sym e.0 ∙ f.0);

@@ -28,8 +28,8 @@ abbrev pub build_index : (words bytes : List ℕ) (r : ℕ) (bytes' : List ℕ) 
 build_index words bytes r bytes' = (r ≡ code (calls.build (memory words) bytes).answers) × (bytes' ≡ (calls.build (memory words) bytes).index)
 
 -- qd_is_index
-abbrev pub is_index_lem : (words bytes : List ℕ) (r : ℕ) → Type 0
-is_index_lem words bytes r = r ≡ yes_code (calls.is_index (memory words) bytes)
+abbrev pub is_index : (words bytes : List ℕ) (r : ℕ) → Type 0
+is_index words bytes r = r ≡ yes_code (calls.is_index (memory words) bytes)
 
 -- qd_contains
 abbrev pub contains : (words : List ℕ) (x y : ℕ) (r : ℕ) → Type 0
@@ -40,8 +40,8 @@ abbrev pub decide : (words : List ℕ) (q : Request) (r : ℕ) → Type 0
 decide words q r = r ≡ decision_code (calls.decide (memory words) q)
 
 -- qd_decide_indexed
-abbrev pub decide_indexed_lem : (words bytes : List ℕ) (q : Request) (r : ℕ) → Type 0
-decide_indexed_lem words bytes q r = r ≡ decision_code (calls.decide_indexed (memory words) bytes q)
+abbrev pub decide_indexed : (words bytes : List ℕ) (q : Request) (r : ℕ) → Type 0
+decide_indexed words bytes q r = r ≡ decision_code (calls.decide_indexed (memory words) bytes q)
 
 -- qd_explain: its rows are rows of eight numbers
 abbrev pub explain : (words : List ℕ) (q : Request) (rows : List (List ℕ)) (r : ℕ) (rows' : List (List ℕ)) → Type 0

@@ -21,10 +21,10 @@ pub record Unique : Type 0 where
       → (r ≡ s) × (bytes' ≡ bytes'')
   pub build_index : (words bytes : List ℕ) (r s : ℕ) (bytes' bytes'' : List ℕ) → allows.build_index words bytes r bytes'
       → allows.build_index words bytes s bytes'' → (r ≡ s) × (bytes' ≡ bytes'')
-  pub is_index_lem : (words bytes : List ℕ) (r s : ℕ) → allows.is_index_lem words bytes r → allows.is_index_lem words bytes s → r ≡ s
+  pub is_index : (words bytes : List ℕ) (r s : ℕ) → allows.is_index words bytes r → allows.is_index words bytes s → r ≡ s
   pub contains : (words : List ℕ) (x y : ℕ) (r s : ℕ) → allows.contains words x y r → allows.contains words x y s → r ≡ s
   pub decide : (words : List ℕ) (q : Request) (r s : ℕ) → allows.decide words q r → allows.decide words q s → r ≡ s
-  pub decide_indexed_lem : (words bytes : List ℕ) (q : Request) (r s : ℕ) → allows.decide_indexed_lem words bytes q r → allows.decide_indexed_lem words bytes q s
+  pub decide_indexed : (words bytes : List ℕ) (q : Request) (r s : ℕ) → allows.decide_indexed words bytes q r → allows.decide_indexed words bytes q s
       → r ≡ s
   pub explain : (words : List ℕ) (q : Request) (rows : List (List ℕ)) (r s : ℕ) (rows' rows'' : List (List ℕ))
       → allows.explain words q rows r rows' → allows.explain words q rows s rows'' → (r ≡ s) × (rows' ≡ rows'')
@@ -47,14 +47,14 @@ pub record CodesTell : Type 0 where
       → (calls.save (memory words) bytes).answers ≡ (calls.save (memory words₂) bytes₂).answers
   pub build_index : (words bytes words₂ bytes₂ : List ℕ) (r : ℕ) (bytes' bytes₂' : List ℕ) → allows.build_index words bytes r bytes'
       → allows.build_index words₂ bytes₂ r bytes₂' → Alike (calls.build (memory words) bytes).answers (calls.build (memory words₂) bytes₂).answers
-  pub is_index_lem : (words bytes words₂ bytes₂ : List ℕ) (r : ℕ) → allows.is_index_lem words bytes r → allows.is_index_lem words₂ bytes₂ r
+  pub is_index : (words bytes words₂ bytes₂ : List ℕ) (r : ℕ) → allows.is_index words bytes r → allows.is_index words₂ bytes₂ r
       → calls.is_index (memory words) bytes ≡ calls.is_index (memory words₂) bytes₂
   pub contains : (words words₂ : List ℕ) (x y x₂ y₂ : ℕ) (r : ℕ) → allows.contains words x y r → allows.contains words₂ x₂ y₂ r
       → calls.contains (memory words) x y ≡ calls.contains (memory words₂) x₂ y₂
   pub decide : (words words₂ : List ℕ) (q q₂ : Request) (r : ℕ) → allows.decide words q r → allows.decide words₂ q₂ r
       → calls.decide (memory words) q ≡ calls.decide (memory words₂) q₂
-  pub decide_indexed_lem : (words bytes words₂ bytes₂ : List ℕ) (q q₂ : Request) (r : ℕ) → allows.decide_indexed_lem words bytes q r
-      → allows.decide_indexed_lem words₂ bytes₂ q₂ r → calls.decide_indexed (memory words) bytes q ≡ calls.decide_indexed (memory words₂) bytes₂ q₂
+  pub decide_indexed : (words bytes words₂ bytes₂ : List ℕ) (q q₂ : Request) (r : ℕ) → allows.decide_indexed words bytes q r
+      → allows.decide_indexed words₂ bytes₂ q₂ r → calls.decide_indexed (memory words) bytes q ≡ calls.decide_indexed (memory words₂) bytes₂ q₂
   pub explain : (words words₂ : List ℕ) (q q₂ : Request) (rows rows₂ : List (List ℕ)) (r : ℕ) (rows' rows₂' : List (List ℕ))
       → allows.explain words q rows r rows' → allows.explain words₂ q₂ rows₂ r rows₂'
       → (explaining (memory words) q rows).answers ≡ (explaining (memory words₂) q₂ rows₂).answers

@@ -129,7 +129,7 @@ pub extern "C" fn qd_build_index(table: &[u32], index: &mut [u8]) -> u32
 // Whether the bytes are the index of the table.
 #[unsafe(no_mangle)]
 pub extern "C" fn qd_is_index(table: &[u32], index: &[u8]) -> u32
-    ensures { allows.is_index_lem table.now index.now result }
+    ensures { allows.is_index table.now index.now result }
 {
     matching_code(policy::is_index(table, index))
 }
@@ -175,7 +175,7 @@ pub extern "C" fn qd_decide_indexed(
     b: u32,
     c: u32,
 ) -> u32
-    ensures { allows.decide_indexed_lem table.now index.now (requested process operation a b c) result }
+    ensures { allows.decide_indexed table.now index.now (requested process operation a b c) result }
 {
     let q = Request {
         process: process,

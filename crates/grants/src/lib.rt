@@ -1,4 +1,6 @@
 // The rows of a grant: one for each argument, right and containing class, all rising, with the lowest authorizing association.
+#![tactic(auto)]
+
 ghost use Rattle.std.specs.Prelude.{◌≡◌, false, ◌+◌, ◌≤◌, ◌<◌, length};
 ghost use Rattle.model.specs.Bits.{digit};
 ghost use Rattle.model.specs.Contain.{contained};

@@ -30,6 +30,7 @@ first_not_one : {ls : List Line} → all_of not_one ls ≡ true → First 1 ls �
 unfolding all_of
 first_not_one {ls = l ∷ ls} e (now q h) = clash (rw (q, h) at (and_left (not_one l) (all_of not_one ls) e)) refl
 first_not_one {ls = l ∷ ls} e (next h f) = first_not_one (and_right (not_one l) (all_of not_one ls) e) f
+first_not_one {ls = mathlib.Core.List.[]} e never = elim never [ ]
 
 -- and the call is not refused with 1
 pub answer_not_one : {A : Type 0} (a : A) (ls : List Line) → all_of not_one ls ≡ true → answer ls a ≡ refused 1 → ⊥

@@ -60,7 +60,7 @@ module _ (words : List ℕ) (x y : ℕ) (r : Containment) (e : allows.contains w
       )
 
 -- is_index: any words, any bytes, any result
-module _ (words bytes : List ℕ) (r : Matching) (e : allows.is_index_lem words bytes r) where
+module _ (words bytes : List ℕ) (r : Matching) (e : allows.is_index words bytes r) where
   -- the same exactly if no line holds and each byte is the index's
   pub is_index_same : (r ≡ matching.Same) ↔ (None (index_lines (lent (memory words) bytes)) × (bytes ≡ index_of (policy_of words)))
   unfolding is_index index.matched

@@ -221,7 +221,7 @@ module _ (k : Case) (i : In k cases) (words bytes : List ℕ) (kept : Kept words
     request_answered : RequestAnswered (struct_of q) k.outcome words bytes
     request_answered = record {
       decide = plain;
-      decide_indexed_lem = λ r f. plain r (f ∙ rw (kept.table, kept.index) (indexed_as_plain (policy_of words) kept.sound q));
+      decide_indexed = λ r f. plain r (f ∙ rw (kept.table, kept.index) (indexed_as_plain (policy_of words) kept.sound q));
       explain_numbers = by_numbers;
       explain = λ room out r two f.
           let size : length (numbers_in room) ≡ length room = length-map (map row_of room) numbers_of ∙ length-map room row_of in

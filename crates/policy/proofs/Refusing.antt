@@ -96,7 +96,7 @@ build_refuses words bytes bytes' r e =
     }
 
 -- is_index: the same lines
-pub is_index_refuses : (words bytes : List ℕ) (r : Matching) → allows.is_index_lem words bytes r
+pub is_index_refuses : (words bytes : List ℕ) (r : Matching) → allows.is_index words bytes r
     → GivenExactly matching.Refused (index_lines (lent (memory words) bytes)) r
 unfolding is_index index.matched
 is_index_refuses words bytes r e n =

@@ -40,8 +40,8 @@ abbrev pub build_index : (words bytes : List ℕ) (r : Outcome) (bytes' : List �
 build_index words bytes r bytes' = index.left r bytes' ≡ calls.build (memory words) bytes
 
 -- is_index
-abbrev pub is_index_lem : (words bytes : List ℕ) (r : Matching) → Type 0
-is_index_lem words bytes r = index.matched r ≡ calls.is_index (memory words) bytes
+abbrev pub is_index : (words bytes : List ℕ) (r : Matching) → Type 0
+is_index words bytes r = index.matched r ≡ calls.is_index (memory words) bytes
 
 -- contains
 abbrev pub contains : (words : List ℕ) (x y : ℕ) (r : Containment) → Type 0
@@ -52,8 +52,8 @@ abbrev pub decide : (words : List ℕ) (q : Request) (r : Decision) → Type 0
 decide words q r = decision.told r ≡ calls.decide (memory words) (request_of q)
 
 -- decide_indexed
-abbrev pub decide_indexed_lem : (words bytes : List ℕ) (q : Request) (r : Decision) → Type 0
-decide_indexed_lem words bytes q r = decision.told r ≡ calls.decide_indexed (memory words) bytes (request_of q)
+abbrev pub decide_indexed : (words bytes : List ℕ) (q : Request) (r : Decision) → Type 0
+decide_indexed words bytes q r = decision.told r ≡ calls.decide_indexed (memory words) bytes (request_of q)
 
 -- explain_numbers: its rows are rows of eight numbers
 abbrev pub explain_numbers : (words : List ℕ) (q : Request) (rows : List (List ℕ)) (r : Explanation) (rows' : List (List ℕ)) → Type 0

@@ -69,7 +69,7 @@ struct_of q = record { process = q.process; operation = q.operation; first = q.f
 -- is expected. Two lent rows are enough.
 pub record RequestAnswered (q : Request) (o : Expected) (words bytes : List ℕ) : Type 0 where
   pub decide : (r : Decision) → allows.decide words q r → Decides o r
-  pub decide_indexed_lem : (r : Decision) → allows.decide_indexed_lem words bytes q r → Decides o r
+  pub decide_indexed : (r : Decision) → allows.decide_indexed words bytes q r → Decides o r
   pub explain_numbers : (rows rows' : List (List ℕ)) (r : Explanation) → 2 ≤ length rows → allows.explain_numbers words q rows r rows'
       → Explains cause_in number_in o r rows'
   pub explain : (rows rows' : List Row) (r : Explanation) → 2 ≤ length rows → allows.explain words q rows r rows'

@@ -60,13 +60,13 @@ pub record RefusalsExact : Type 0 where
       → Refuses saved.Refused (save_lines (holds_table words) (length bytes) (policy_of words)) r (bytes' ≡ bytes)
   pub build_index : (words bytes bytes' : List ℕ) (r : Outcome) → allows.build_index words bytes r bytes'
       → Refuses outcome.Refused (index_lines (lent (memory words) bytes)) r (bytes' ≡ bytes)
-  pub is_index_lem : (words bytes : List ℕ) (r : Matching) → allows.is_index_lem words bytes r
+  pub is_index : (words bytes : List ℕ) (r : Matching) → allows.is_index words bytes r
       → GivenExactly matching.Refused (index_lines (lent (memory words) bytes)) r
   pub contains : (words : List ℕ) (x y : ℕ) (r : Containment) → allows.contains words x y r
       → GivenExactly containment.Refused (contain_lines (holds_table words) (policy_of words) x y) r
   pub decide : (words : List ℕ) (q : Request) (r : Decision) → allows.decide words q r
       → GivenExactly decision.Refused (request_lines (holds_table words) (policy_of words) (request_of q)) r
-  pub decide_indexed_lem : (words bytes : List ℕ) (q : Request) (r : Decision) → allows.decide_indexed_lem words bytes q r
+  pub decide_indexed : (words bytes : List ℕ) (q : Request) (r : Decision) → allows.decide_indexed words bytes q r
       → GivenExactly decision.Refused (indexed_lines (lent (memory words) bytes) (policy_of words) (request_of q)) r
   pub explain_numbers : (words : List ℕ) (q : Request) (rows rows' : List (List ℕ)) (r : Explanation) → allows.explain_numbers words q rows r rows'
       → Refuses explanation.Refused (explain_lines (contained (policy_of words)) (holds_table words) (length rows) (policy_of words) (request_of q)) r (rows' ≡ rows)
@@ -87,10 +87,10 @@ pub record ContainsExact : Type 0 where
 -- index_exact. The containment index.
 pub record IndexExact : Type 0 where
   -- "A call tells whether an index is the table's.": the same exactly if no line refuses the call and every byte is that of the index
-  pub same : (words bytes : List ℕ) (r : Matching) → allows.is_index_lem words bytes r → (r ≡ matching.Same)
+  pub same : (words bytes : List ℕ) (r : Matching) → allows.is_index words bytes r → (r ≡ matching.Same)
       ↔ (None (index_lines (lent (memory words) bytes)) × (bytes ≡ index_of (policy_of words)))
   -- another exactly if no line refuses the call and not every byte is
-  pub other : (words bytes : List ℕ) (r : Matching) → allows.is_index_lem words bytes r → (r ≡ matching.Other)
+  pub other : (words bytes : List ℕ) (r : Matching) → allows.is_index words bytes r → (r ≡ matching.Other)
       ↔ (None (index_lines (lent (memory words) bytes)) × (bytes ≡ index_of (policy_of words) → ⊥))
   -- the index is built exactly if no line refuses the call
   pub done : (words bytes bytes' : List ℕ) (r : Outcome) → allows.build_index words bytes r bytes' → (r ≡ outcome.Done)
@@ -128,17 +128,17 @@ pub record GrantExact : Type 0 where
 -- indexed_over_any_bytes. The indexed decision is the rule with the bits of the lent bytes read as containment.
 pub record IndexedOverAnyBytes : Type 0 where
   -- over any 32,768 bytes, with the refusals of the plain decision
-  pub bytes : (words bytes : List ℕ) (q : Request) (r : Decision) → allows.decide_indexed_lem words bytes q r → length bytes ≡ 32768
+  pub bytes : (words bytes : List ℕ) (q : Request) (r : Decision) → allows.decide_indexed words bytes q r → length bytes ≡ 32768
       → ByBits bytes (request_lines (holds_table words) (policy_of words) (request_of q)) (policy_of words) (request_of q) r
   -- over bytes of any number, with its own refusals: 2 besides, where they are not 32,768
-  pub any_number : (words bytes : List ℕ) (q : Request) (r : Decision) → allows.decide_indexed_lem words bytes q r
+  pub any_number : (words bytes : List ℕ) (q : Request) (r : Decision) → allows.decide_indexed words bytes q r
       → ByBits bytes (indexed_lines (lent (memory words) bytes) (policy_of words) (request_of q)) (policy_of words) (request_of q) r
 
 -- indexed_as_plain. On a table whose policy is sound, with the policy's index, both decisions have the same result, for every process, operation and
 -- argument, in and out of range.
 abbrev pub IndexedAsPlain : Type 0
 IndexedAsPlain = (words bytes : List ℕ) (q : Request) (r s : Decision) → holds_table words ≡ true → Sound (policy_of words) → bytes ≡ index_of (policy_of words)
-    → allows.decide words q r → allows.decide_indexed_lem words bytes q s → r ≡ s
+    → allows.decide words q r → allows.decide_indexed words bytes q s → r ≡ s
 
 -- rows_exact. The explanation.
 pub record RowsExact : Type 0 where
@@ -206,10 +206,10 @@ pub record Unique : Type 0 where
       → (r ≡ s) × (bytes' ≡ bytes'')
   pub build_index : (words bytes : List ℕ) (r s : Outcome) (bytes' bytes'' : List ℕ) → allows.build_index words bytes r bytes'
       → allows.build_index words bytes s bytes'' → (r ≡ s) × (bytes' ≡ bytes'')
-  pub is_index_lem : (words bytes : List ℕ) (r s : Matching) → allows.is_index_lem words bytes r → allows.is_index_lem words bytes s → r ≡ s
+  pub is_index : (words bytes : List ℕ) (r s : Matching) → allows.is_index words bytes r → allows.is_index words bytes s → r ≡ s
   pub contains : (words : List ℕ) (x y : ℕ) (r s : Containment) → allows.contains words x y r → allows.contains words x y s → r ≡ s
   pub decide : (words : List ℕ) (q : Request) (r s : Decision) → allows.decide words q r → allows.decide words q s → r ≡ s
-  pub decide_indexed_lem : (words bytes : List ℕ) (q : Request) (r s : Decision) → allows.decide_indexed_lem words bytes q r → allows.decide_indexed_lem words bytes q s
+  pub decide_indexed : (words bytes : List ℕ) (q : Request) (r s : Decision) → allows.decide_indexed words bytes q r → allows.decide_indexed words bytes q s
       → r ≡ s
   pub explain_numbers : (words : List ℕ) (q : Request) (rows : List (List ℕ)) (r s : Explanation) (rows' rows'' : List (List ℕ))
       → allows.explain_numbers words q rows r rows' → allows.explain_numbers words q rows s rows'' → (r ≡ s) × (rows' ≡ rows'')

@@ -43,7 +43,7 @@ pub fn build_index(mem: &[u32], idx: &mut [u8]) -> Outcome
 
 // Whether the bytes are the index of the table.
 pub fn is_index(mem: &[u32], idx: &[u8]) -> Matching
-    ensures { allows.is_index_lem mem.now idx.now result }
+    ensures { allows.is_index mem.now idx.now result }
 {
     index::is_index(mem, idx)
 }
@@ -64,7 +64,7 @@ pub fn decide(mem: &[u32], q: Request) -> Decision
 
 // The decision that takes containment from the bits of the index alone.
 pub fn decide_indexed(mem: &[u32], idx: &[u8], q: Request) -> Decision
-    ensures { allows.decide_indexed_lem mem.now idx.now q result }
+    ensures { allows.decide_indexed mem.now idx.now q result }
 {
     decide::decide_indexed(mem, idx, q)
 }

@@ -1,5 +1,4 @@
 pub mod Filled
-pub mod Local
 pub mod Answered
 pub mod Few
 pub mod Telling

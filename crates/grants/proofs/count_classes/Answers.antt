@@ -1,0 +1,12 @@
+use Prim.Native.Nat.{◌-◌}
+use Rattle.grants.proofs.Classes.{count_start, count_more, count_end}
+use Rattle.grants.proofs.count_classes.Goals as goal
+
+pub loop-c-init : goal.loop-c-init
+loop-c-init c = search count_start
+
+pub loop-c-preserved : goal.loop-c-preserved
+loop-c-preserved c = search count_more
+
+pub returns : goal.returns
+returns c = search count_end
