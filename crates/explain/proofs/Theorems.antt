@@ -51,6 +51,7 @@ last_line W holds room p q (next a (next b (now e h))) = absurd (omega arith)
 last_line W holds room p q (next a (next b (next c (now e h)))) = absurd (omega arith)
 last_line W holds room p q (next a (next b (next c (next d (now e h))))) =
     (past a (past b (past c (past d end))), ltb-true room (length (rows W p q)) h)
+last_line W holds room p q (next a (next b (next c (next d (next _ never))))) = elim never [ ]
 
 -- where none of an explanation's lines holds, none of the request's does
 request_none : (W : ℕ → ℕ → Bool) (holds : Bool) (room : ℕ) (p : Policy) (q : Asks) → None (explain_lines W holds room p q) → (holds ≡ true) × None (request_lines true p q)
