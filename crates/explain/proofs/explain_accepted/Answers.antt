@@ -30,7 +30,7 @@ pub explain_deny-requires-clause-all_rows : goal.explain_deny-requires-clause-al
 explain_deny-requires-clause-all_rows c = search climbed_rows
 
 pub explain_deny-requires-clause-q_value : goal.explain_deny-requires-clause-q_value
-explain_deny-requires-clause-q_value c = search (decided_deny, c.choose-decision.ensures, c.enum_told-1.given.1)
+explain_deny-requires-clause-q_value c = search (decided_deny, c.choose-decision.ensures, c.in-Deny.is)
 
 pub returns-in-Refused : goal.returns-in-Refused
 returns-in-Refused c = search decided_refused

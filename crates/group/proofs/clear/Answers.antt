@@ -1,5 +1,4 @@
 -- `group::clear` meets its contract. Invariant: the first i words are 0. Assumes nothing.
-use Prim.Native.Nat.{◌-◌}
 use Rattle.group.proofs.Moves.{cleared_none, cleared_more, cleared_all}
 use Rattle.group.proofs.clear.Goals as goal
 

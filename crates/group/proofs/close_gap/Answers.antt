@@ -1,5 +1,4 @@
 -- `group::close_gap` meets its contract. Invariant: the first i words are moved. Assumes nothing.
-use Prim.Native.Nat.{◌-◌}
 use Rattle.group.proofs.Moves.{closed_none, closed_more, closed_all}
 use Rattle.group.proofs.close_gap.Goals as goal
 

@@ -1,5 +1,4 @@
 -- `group::find` meets its contract. Invariant: the place is i and the place in the records that are left. Assumes nothing.
-use Prim.Native.Nat.{◌-◌}
 use Rattle.group.specs.Group.{begins}
 use Rattle.group.proofs.Found.{searched_none, next_fits, searched_all, front_fits, front_more, front_found}
 use native.Mathlib.Omega.{arith}

@@ -1,5 +1,4 @@
 -- `group::is_before` meets its contract. Invariant: the test of what is left is the test of the whole. Assumes nothing.
-use Prim.Native.Nat.{◌-◌}
 use Rattle.group.proofs.Compare.{left_all, before_more, before_lower, before_higher, before_equal}
 use Rattle.group.proofs.is_before.Goals as goal
 

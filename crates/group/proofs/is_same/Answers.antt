@@ -1,5 +1,4 @@
 -- `group::is_same` meets its contract. Invariant: the test of what is left is the test of the whole. Assumes nothing.
-use Prim.Native.Nat.{◌-◌}
 use Rattle.group.proofs.Compare.{left_all, same_more, same_other, same_all}
 use Rattle.group.proofs.is_same.Goals as goal
 

@@ -1,5 +1,4 @@
 -- `group::place` meets its contract. Invariant: the place is i and the place in the records that are left. Assumes nothing.
-use Prim.Native.Nat.{◌-◌}
 use Rattle.model.specs.Lists.{before}
 use Rattle.group.proofs.Found.{searched_none, next_fits, searched_more, searched_found, searched_all}
 use native.Mathlib.Omega.{arith}

@@ -1,5 +1,4 @@
 -- `group::store` meets its contract. Invariant: the record's first i words are there. Assumes nothing.
-use Prim.Native.Nat.{◌-◌}
 use Rattle.group.proofs.Moves.{copied_none, copied_more, copied_all}
 use Rattle.group.proofs.store.Goals as goal
 

@@ -1,5 +1,4 @@
 use Rattle.index.proofs.Rows.{added_none, added_more, added_end}
-use Prim.Native.Nat.{◌-◌}
 use native.Mathlib.Omega.{arith}
 use Rattle.index.proofs.add_row.Goals as goal
 

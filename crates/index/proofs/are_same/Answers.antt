@@ -1,5 +1,4 @@
 use Rattle.index.proofs.Compared.{same_none, same_more, same_all}
-use Prim.Native.Nat.{◌-◌}
 use Rattle.index.proofs.are_same.Goals as goal
 
 pub loop-i-init : goal.loop-i-init

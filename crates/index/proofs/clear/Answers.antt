@@ -1,5 +1,4 @@
 use Rattle.index.proofs.Seeds.{zeroed_none, zeroed_more, zeroed_end}
-use Prim.Native.Nat.{◌-◌}
 use Rattle.index.proofs.clear.Goals as goal
 
 pub loop-i-init : goal.loop-i-init

@@ -1,5 +1,4 @@
 use Rattle.index.proofs.Rows.{cleared_none, cleared_more, cleared_end}
-use Prim.Native.Nat.{◌-◌}
 use native.Mathlib.Omega.{arith}
 use Rattle.index.proofs.clear_row.Goals as goal
 

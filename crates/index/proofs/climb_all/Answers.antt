@@ -1,5 +1,4 @@
 use Rattle.index.proofs.Rounds.{climbed_none, climbed_then}
-use Prim.Native.Nat.{◌-◌}
 use native.Mathlib.Omega.{arith}
 use Rattle.index.proofs.climb_all.Goals as goal
 

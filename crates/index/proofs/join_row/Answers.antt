@@ -1,5 +1,4 @@
 use Rattle.index.proofs.Joins.{joined_none, joined_more, joined_end}
-use Prim.Native.Nat.{◌-◌}
 use native.Mathlib.Omega.{arith}
 use Rattle.index.proofs.join_row.Goals as goal
 

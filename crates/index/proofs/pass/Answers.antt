@@ -1,5 +1,4 @@
 use Rattle.index.proofs.Rounds.{passed_none, passed_more, passed_end}
-use Prim.Native.Nat.{◌-◌}
 use native.Mathlib.Omega.{arith}
 use Rattle.index.proofs.pass.Goals as goal
 

@@ -1,5 +1,4 @@
 use Rattle.index.proofs.Seeds.{seeded_none, seeded_more, seeded}
-use Prim.Native.Nat.{◌-◌}
 use Rattle.index.proofs.start.Goals as goal
 
 pub loop-x-init : goal.loop-x-init

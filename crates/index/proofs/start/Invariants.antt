@@ -1,4 +1,3 @@
-use Rattle.index.proofs.Seeds.{seeded}
 use Rattle.index.specs.Passes.{Seeded}
 use Prim.Native.Nat.{◌-◌}
 use Rattle.index.proofs.start.Given as goal

@@ -1,5 +1,4 @@
 use Rattle.index.proofs.Tidying.{tidied_none, tidied_more, tidied_end}
-use Prim.Native.Nat.{◌-◌}
 use native.Mathlib.Omega.{arith}
 use Rattle.index.proofs.tidy.Goals as goal
 

@@ -1,5 +1,4 @@
 use native.Mathlib.Omega.{arith}
-use Prim.Native.Nat.{◌-◌}
 use Rattle.table.proofs.Checks.{rise_none, rise_more, rise_all}
 use Rattle.table.proofs.are_rising.Goals as goal
 

@@ -1,4 +1,3 @@
-use Prim.Native.Nat.{◌-◌}
 use Rattle.table.proofs.Checks.{short_none, short_more, short_all}
 use Rattle.table.proofs.have_short_lists.Goals as goal
 

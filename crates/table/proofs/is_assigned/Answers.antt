@@ -1,4 +1,3 @@
-use Prim.Native.Nat.{◌-◌}
 use Rattle.table.proofs.Assignments.{among_none, among_more, assigned_here, assigned_nowhere}
 use Rattle.table.proofs.is_assigned.Goals as goal
 

@@ -1,6 +1,5 @@
 -- `bits::Cursor::take` meets its contract: in each turn the bits before the place p are taken, n - left of them.
 -- Assumes nothing.
-use Prim.Native.Nat.{◌-◌}
 use native.Mathlib.Omega.{arith}
 use borrow.Author.Rules.{rules}
 use Rattle.bits.proofs.Turns.{take_start, take_fits, take_turn, take_end}

@@ -1,6 +1,5 @@
 -- `bits::Cursor::write` meets its contract: in each turn the bits before the place p are written, the upper n - left of the n.
 -- Assumes nothing.
-use Prim.Native.Nat.{◌-◌}
 use native.Mathlib.Omega.{arith}
 use borrow.Author.Rules.{rules}
 use Rattle.bits.proofs.Turns.{write_start, chunk_lt, write_turn, write_end}
