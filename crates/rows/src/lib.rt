@@ -1,4 +1,6 @@
 // The explanation, with rows as a lent slice of small structs.
+#![tactic(auto)]
+
 ghost use Rattle.std.specs.Prelude.{◌≡◌, cond, [], map, ◌≤◌, ◌<◌, ltb, length, get_or, take};
 ghost use Rattle.model.specs.Calls.{over, explain as explaining};
 ghost use Rattle.table.specs.View.{memory};

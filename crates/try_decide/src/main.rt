@@ -1,5 +1,7 @@
 // Runs a script of steps on a table, its index, a request and lent rows, and prints what the steps answer. A step is nine bytes: a letter, two
 // numbers of two bytes and one of four, the high byte first. second/ has the script's meaning and makes the stored input and output.
+#![tactic(auto)]
+
 ghost use Rattle.std.specs.Prelude.{◌≡◌, ◌+◌, ◌≤◌, ◌<◌, length, take};
 ghost use Rattle.io.specs.Counts.{IsPrefixLen};
 ghost use Rattle.table.specs.Facts.{Table};

@@ -1,5 +1,4 @@
 use native.Mathlib.Omega.{arith}
-use Prim.Native.Nat.{◌-◌}
 use Rattle.climb.proofs.Queue.{closed_blank}
 use Rattle.climb.proofs.Rows.{moved_none, moved_more, queued_small, queued_word, moved_all, moved_blank}
 use Rattle.climb.proofs.mark_row.Goals as goal

@@ -1,5 +1,4 @@
 use native.Mathlib.Omega.{arith}
-use Prim.Native.Nat.{◌-◌}
 use Rattle.climb.proofs.Turns.{turns_start, turn, turns_over, turns_end}
 use Rattle.climb.proofs.offer_containers.Goals as goal
 

@@ -1,5 +1,4 @@
 use Rattle.named.proofs.Mentions.{none_yet, none_more, one_found, none_found}
-use Prim.Native.Nat.{◌-◌}
 use Rattle.table.specs.View.{policy_of, associations_of}
 use Rattle.named.specs.Uses.{is_associated}
 use Rattle.named.proofs.is_associated.Goals as goal

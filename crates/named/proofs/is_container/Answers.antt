@@ -1,5 +1,4 @@
 use Rattle.named.proofs.Mentions.{is_to, none_yet, none_found, container_more, container_found}
-use Prim.Native.Nat.{◌-◌}
 use Rattle.table.specs.View.{policy_of, assignments_of}
 use Rattle.named.specs.Uses.{is_container}
 use Rattle.named.proofs.is_container.Goals as goal

@@ -1,5 +1,4 @@
 use Rattle.named.proofs.Owned.{owner_none, owner_more, owner_found, owner_end}
-use Prim.Native.Nat.{◌-◌}
 use Rattle.named.proofs.is_owner.Goals as goal
 
 pub loop-i-init : goal.loop-i-init

@@ -1,5 +1,4 @@
 use Rattle.named.proofs.Mentions.{none_yet, none_more, one_found, none_found}
-use Prim.Native.Nat.{◌-◌}
 use Rattle.model.specs.Command.{process_in_use}
 use Rattle.table.specs.View.{policy_of, prohibitions_of}
 use Rattle.named.proofs.is_process_in_use.Goals as goal

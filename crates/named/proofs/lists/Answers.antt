@@ -1,5 +1,4 @@
 use Rattle.named.proofs.Mentions.{none_yet, listed_more, listed_found, listed_end}
-use Prim.Native.Nat.{◌-◌}
 use Rattle.named.proofs.lists.Goals as goal
 
 pub loop-k-init : goal.loop-k-init

@@ -1,4 +1,3 @@
-use Prim.Native.Nat.{◌-◌}
 use Rattle.weigh.proofs.Tallied.{tally_fits}
 use Rattle.weigh.proofs.Present.{elements_none, elements_more, elements_all}
 use Rattle.weigh.proofs.element_count.Goals as goal

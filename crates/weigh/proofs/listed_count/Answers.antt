@@ -1,4 +1,3 @@
-use Prim.Native.Nat.{◌-◌}
 use Rattle.weigh.proofs.Listing.{listed_none, listed_more, listed_all}
 use Rattle.weigh.proofs.listed_count.Goals as goal
 

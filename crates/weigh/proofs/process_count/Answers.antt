@@ -1,4 +1,3 @@
-use Prim.Native.Nat.{◌-◌}
 use Rattle.weigh.proofs.Tallied.{tally_fits}
 use Rattle.weigh.proofs.Present.{processes_none, processes_more, processes_all}
 use Rattle.weigh.proofs.process_count.Goals as goal
