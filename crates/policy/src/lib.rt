@@ -1,5 +1,7 @@
 // The public calls. Each takes every input there is: words, bytes and rows of any length and with any contents, and any numbers. A refused call
 // writes nothing. What each answers and leaves is said by its contract; docs/CONTRACTS.md has the table of them.
+#![tactic(auto)]
+
 ghost use Rattle.model.specs.Command.{create_class, create_element, assign, deassign, delete_element, create_association, delete_association, create_prohibition, delete_prohibition, start_process, end_process};
 ghost use Rattle.store.specs.ProhibitionWords.{prohibition};
 ghost use Rattle.policy.specs.Allows as allows;

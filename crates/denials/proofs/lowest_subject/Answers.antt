@@ -1,4 +1,3 @@
-use Prim.Native.Nat.{◌-◌}
 use Rattle.denials.proofs.Subjects.{lowest_none, lowest_more, lowest_end}
 use native.Mathlib.Omega.{arith}
 use Rattle.denials.proofs.lowest_subject.Goals as goal

@@ -1,4 +1,3 @@
-use Prim.Native.Nat.{◌-◌}
 use Rattle.grants.proofs.Classes.{count_start, count_more, count_end}
 use Rattle.grants.proofs.count_classes.Goals as goal
 

@@ -1,4 +1,3 @@
-use Prim.Native.Nat.{◌-◌}
 use Rattle.grants.proofs.Classes.{name_few, write_start, write_room, write_more, write_end}
 use Rattle.grants.proofs.put_right.Goals as goal
 

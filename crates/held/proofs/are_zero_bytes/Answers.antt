@@ -1,5 +1,4 @@
 use Rattle.held.proofs.Eights.{zeros_none, zeros_more, zeros_past, zeros_all}
-use Prim.Native.Nat.{◌-◌}
 use Rattle.held.proofs.are_zero_bytes.Goals as goal
 
 pub returns-then-rows-from : goal.returns-then-rows-from

@@ -1,5 +1,4 @@
 use Rattle.held.proofs.Passing.{byte_zero, byte_other, ids_start, id_more, id_found, ids_end}
-use Prim.Native.Nat.{◌-◌}
 use Rattle.held.proofs.class_in_byte.Goals as goal
 
 pub returns-then-is_zero_byte : goal.returns-then-is_zero_byte

@@ -1,5 +1,4 @@
 use Rattle.held.proofs.Passing.{bytes_zero, bytes_start, byte_more, byte_found, ids_end}
-use Prim.Native.Nat.{◌-◌}
 use Rattle.held.proofs.class_in_bytes.Goals as goal
 
 pub returns-then-are_zero_bytes : goal.returns-then-are_zero_bytes

@@ -1,5 +1,4 @@
 use Rattle.held.proofs.Eights.{class_none, class_more, class_all}
-use Prim.Native.Nat.{◌-◌}
 use Rattle.held.proofs.has_class.Goals as goal
 
 pub loop-k-init : goal.loop-k-init

@@ -1,6 +1,4 @@
 use Rattle.held.proofs.Turns.{marked_start, marked_class, marked_end, marked_more, marked_given, marked_lacks}
-use Prim.Native.Nat.{◌-◌}
-use borrow.Author.Rules.{rules}
 use Rattle.held.proofs.lack_by_climb.Goals as goal
 
 pub classes-init : goal.classes-init

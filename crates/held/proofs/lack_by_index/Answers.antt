@@ -1,7 +1,4 @@
-use Prim.Native.Nat.{◌-◌}
-use borrow.Author.Rules.{rules}
 use Rattle.held.proofs.Turns.{bit_start, bit_class, bit_end, bit_more, bit_given, bit_lacks}
-use native.Mathlib.Omega.{arith}
 use Rattle.held.proofs.lack_by_index.Goals as goal
 
 pub classes-init : goal.classes-init

@@ -1,4 +1,3 @@
-use Prim.Native.Nat.{◌-◌}
 use Rattle.held.proofs.Passing.{row_start, bytes_more, bytes_found, ids_end}
 use Rattle.held.proofs.next_class.Goals as goal
 

@@ -1,6 +1,5 @@
 -- `lines::put_numbers` meets its contract: before each turn the first i numbers were put, each in at most eleven bytes.
 -- Assumes nothing.
-use Prim.Native.Nat.{◌-◌}
 use native.Mathlib.Omega.{arith}
 use Rattle.lines.proofs.Turns.{numbers_start, numbers_turn, numbers_end}
 use Rattle.lines.proofs.put_numbers.Goals as goal

@@ -1,4 +1,3 @@
-use Prim.Native.Nat.{◌-◌}
 use Rattle.table.specs.View.{policy_of, assignments_of}
 use Rattle.table.proofs.Loops.{all_none, all_end}
 use Rattle.links.proofs.Lifting.{counted_low}

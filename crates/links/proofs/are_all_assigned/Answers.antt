@@ -1,4 +1,3 @@
-use Prim.Native.Nat.{◌-◌}
 use Rattle.links.proofs.Placing.{child_most, next_fits, placed_none, placed_fails, placed_same, placed_more, placed_all}
 use Rattle.links.proofs.are_all_assigned.Goals as goal
 use Rattle.links.proofs.are_all_assigned.Goals.{then-x-c+else-not-are_free, else-x-c}

@@ -1,4 +1,3 @@
-use Prim.Native.Nat.{◌-◌}
 use Rattle.table.proofs.Loops.{all_none, all_more, all_fails, all_end}
 use Rattle.table.specs.View.{policy_of, associations_of}
 use Rattle.links.proofs.are_associations_paired.Goals as goal

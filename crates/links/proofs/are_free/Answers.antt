@@ -1,4 +1,3 @@
-use Prim.Native.Nat.{◌-◌}
 use Rattle.links.proofs.Free.{free_none, free_more, free_all}
 use Rattle.links.proofs.are_free.Goals as goal
 

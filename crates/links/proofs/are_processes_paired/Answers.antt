@@ -1,4 +1,3 @@
-use Prim.Native.Nat.{◌-◌}
 use Rattle.links.proofs.Numbered.{ids_none, ids_more, process_fails, processes_pass}
 use Rattle.links.proofs.are_processes_paired.Goals as goal
 

@@ -1,4 +1,3 @@
-use Prim.Native.Nat.{◌-◌}
 use Rattle.links.proofs.Lifting.{risen_none, risen_more, risen_all, sunk_more, sunk_all}
 use Rattle.links.proofs.ranks.Goals as goal
 

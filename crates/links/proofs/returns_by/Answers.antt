@@ -1,4 +1,3 @@
-use Prim.Native.Nat.{◌-◌}
 use Rattle.table.specs.View.{policy_of, assignments_of}
 use Rattle.links.specs.Returning.{returns_by}
 use Rattle.named.proofs.Mentions.{none_yet, none_found}

@@ -1,4 +1,3 @@
-use Prim.Native.Nat.{◌-◌}
 use Rattle.lowest.proofs.InOrder.{risen_one, risen_more, risen_fails, risen_all}
 use Rattle.lowest.proofs.are_rising.Goals as goal
 

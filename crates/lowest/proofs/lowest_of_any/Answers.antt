@@ -1,4 +1,3 @@
-use Prim.Native.Nat.{◌-◌}
 use Rattle.lowest.proofs.Taken.{taken_start, taken_all}
 use native.Mathlib.Omega.{arith}
 use Rattle.lowest.proofs.lowest_of_any.Goals as goal

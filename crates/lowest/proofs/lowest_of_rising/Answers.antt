@@ -1,4 +1,3 @@
-use Prim.Native.Nat.{◌-◌}
 use Rattle.lowest.proofs.Enough.{enough_start, enough_marked, enough_more, enough_all, enough_named, enough_end}
 use Rattle.lowest.proofs.lowest_of_rising.Goals as goal
 use Rattle.lowest.proofs.lowest_of_rising.Goals.{then-loop-i-test+else-names-c-eq0, else-loop-i-test}

@@ -1,4 +1,3 @@
-use Prim.Native.Nat.{◌-◌}
 use Rattle.lowest.proofs.Setting.{set_none, next_few}
 use Rattle.lowest.proofs.Above.{lowered_more, lowered_all}
 use native.Mathlib.Omega.{arith}

@@ -1,4 +1,3 @@
-use Prim.Native.Nat.{◌-◌}
 use Rattle.lowest.proofs.Queued.{queued_none, next_class, class_fits, place_fits, queued_more, queued_all}
 use native.Mathlib.Omega.{arith}
 use Rattle.lowest.proofs.name_queued.Goals as goal

@@ -1,6 +1,5 @@
 -- `measure::behind` meets its contract: in each turn i prohibitions are passed, up to the place p.
 -- Assumes nothing.
-use Prim.Native.Nat.{◌-◌}
 use Rattle.measure.proofs.Passing.{none_passed, cut_within, one_passed, all_past, all_passed}
 use Rattle.measure.proofs.behind.Goals as goal
 

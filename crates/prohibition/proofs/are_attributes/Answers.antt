@@ -1,4 +1,3 @@
-use Prim.Native.Nat.{◌-◌}
 use Rattle.prohibition.proofs.Passed.{passed_none, attribute_more, attribute_fails, attribute_all}
 use Rattle.prohibition.proofs.are_attributes.Goals as goal
 

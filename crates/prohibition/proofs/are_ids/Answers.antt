@@ -1,4 +1,3 @@
-use Prim.Native.Nat.{◌-◌}
 use Rattle.prohibition.proofs.Passed.{passed_none, passed_more, passed_fails, passed_all}
 use Rattle.prohibition.proofs.are_ids.Goals as goal
 

@@ -1,4 +1,3 @@
-use Prim.Native.Nat.{◌-◌}
 use Rattle.prohibition.proofs.Passed.{risen_one, risen_more, risen_fails, risen_all}
 use Rattle.prohibition.proofs.is_rising.Goals as goal
 

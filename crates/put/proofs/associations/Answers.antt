@@ -1,6 +1,5 @@
 -- `put::associations` meets its contract: before each turn the first i associations were put.
 -- Assumes nothing.
-use Prim.Native.Nat.{◌-◌}
 use native.Mathlib.Omega.{arith}
 use borrow.Author.Rules.{rules}
 use Rattle.put.proofs.Turns.{associations_start, association_first, association_second, association_turn, associations_end}

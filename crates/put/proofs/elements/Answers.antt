@@ -1,6 +1,5 @@
 -- `put::elements` meets its contract: before each turn the elements below x were put.
 -- Assumes nothing.
-use Prim.Native.Nat.{◌-◌}
 use native.Mathlib.Omega.{arith}
 use borrow.Author.Rules.{rules}
 use Rattle.put.proofs.Turns.{elements_start, elements_room, elements_turn, elements_end}

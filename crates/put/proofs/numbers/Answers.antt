@@ -1,6 +1,5 @@
 -- `put::numbers` meets its contract: before each turn the first i words were put.
 -- Assumes nothing.
-use Prim.Native.Nat.{◌-◌}
 use native.Mathlib.Omega.{arith}
 use borrow.Author.Rules.{rules}
 use Rattle.put.proofs.Turns.{number_start, number_room, number_turn, number_end}

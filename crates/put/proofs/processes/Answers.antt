@@ -1,6 +1,5 @@
 -- `put::processes` meets its contract: before each turn the processes below i were put.
 -- Assumes nothing.
-use Prim.Native.Nat.{◌-◌}
 use native.Mathlib.Omega.{arith}
 use borrow.Author.Rules.{rules}
 use Rattle.put.proofs.Turns.{processes_start, processes_room, processes_turn, processes_end}

@@ -1,6 +1,5 @@
 -- `put::prohibitions` meets its contract: before each turn the first i prohibitions were put.
 -- Assumes nothing.
-use Prim.Native.Nat.{◌-◌}
 use native.Mathlib.Omega.{arith}
 use borrow.Author.Rules.{rules}
 use Rattle.put.proofs.Turns.{prohibitions_start, prohibitions_room, prohibitions_turn, prohibitions_end}

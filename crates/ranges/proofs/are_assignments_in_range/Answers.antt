@@ -1,4 +1,3 @@
-use Prim.Native.Nat.{◌-◌}
 use Rattle.table.specs.View.{assignments_of, policy_of}
 use Rattle.table.proofs.Loops.{all_none, all_end}
 use Rattle.ranges.proofs.Fitting.{assignment_more, assignment_fails}

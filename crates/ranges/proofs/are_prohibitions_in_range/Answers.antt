@@ -1,4 +1,3 @@
-use Prim.Native.Nat.{◌-◌}
 use Rattle.table.specs.View.{prohibitions_of, policy_of}
 use Rattle.table.proofs.Loops.{all_none, all_more, all_fails, all_end}
 use Rattle.ranges.proofs.are_prohibitions_in_range.Goals as goal

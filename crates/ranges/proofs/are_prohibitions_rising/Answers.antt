@@ -1,4 +1,3 @@
-use Prim.Native.Nat.{◌-◌}
 use Rattle.ranges.proofs.Ordered.{first_rises, one_more_rises, prohibitions_fall, prohibitions_rise}
 use Rattle.ranges.proofs.are_prohibitions_rising.Goals as goal
 

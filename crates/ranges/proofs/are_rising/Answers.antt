@@ -1,4 +1,3 @@
-use Prim.Native.Nat.{◌-◌}
 use Rattle.ranges.proofs.InOrder.{rise_start, next_room, next_small, rise_more, rise_fails, rise_all}
 use Rattle.ranges.proofs.are_rising.Goals as goal
 

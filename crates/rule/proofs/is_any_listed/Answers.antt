@@ -1,4 +1,3 @@
-use Prim.Native.Nat.{◌-◌}
 use Rattle.rule.proofs.Ranges.{listed_none, listed_end, listed_found, listed_more}
 use native.Mathlib.Omega.{arith}
 use Rattle.rule.proofs.is_any_listed.Goals as goal

@@ -1,4 +1,3 @@
-use Prim.Native.Nat.{◌-◌}
 use Rattle.rule.proofs.Restrictions.{restricted_none, restricted_more, restricted_found, restricted_end}
 use native.Mathlib.Omega.{arith}
 use Rattle.rule.proofs.is_restricted.Goals as goal

@@ -1,6 +1,5 @@
 -- `screen::are_elements_right` meets its contract: the answer for all elements is that for those from the place p on, above the last id.
 -- Assumes nothing.
-use Prim.Native.Nat.{◌-◌}
 use Rattle.screen.proofs.Turns.{elements, elements_start, not_above, no_kind, element_passes, all_risen}
 use Rattle.screen.proofs.are_elements_right.Goals as goal
 

@@ -1,6 +1,5 @@
 -- `screen::are_lists_short` meets its contract: the answer for all prohibitions is that for those from the place p on.
 -- Assumes nothing.
-use Prim.Native.Nat.{◌-◌}
 use Rattle.screen.proofs.Short.{short_start, many_inclusions, many_exclusions, both_few, all_short_lem}
 use Rattle.screen.proofs.are_lists_short.Goals as goal
 

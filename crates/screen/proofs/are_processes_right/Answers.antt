@@ -1,6 +1,5 @@
 -- `screen::are_processes_right` meets its contract: the answer for all processes is that for those from the place p on, above the last id.
 -- Assumes nothing.
-use Prim.Native.Nat.{◌-◌}
 use Rattle.screen.proofs.Turns.{processes, processes_start, not_above, no_user, process_passes, all_risen}
 use Rattle.screen.proofs.are_processes_right.Goals as goal
 

@@ -1,5 +1,4 @@
 -- `unpack::unpack_assignments` meets its contract. Invariant: the first i assignments are laid. Assumes nothing.
-use Prim.Native.Nat.{◌-◌}
 use native.Mathlib.Omega.{arith}
 use lib.ListN.{length-set}
 use Rattle.unpack.proofs.Turns.{assignments_none, assignment_more, assignments_all}

@@ -1,5 +1,4 @@
 -- `unpack::unpack_associations` meets its contract. Invariant: the first i associations are laid. Assumes nothing.
-use Prim.Native.Nat.{◌-◌}
 use native.Mathlib.Omega.{arith}
 use lib.ListN.{length-set}
 use Rattle.unpack.proofs.Turns.{associations_none, association_more, associations_all}

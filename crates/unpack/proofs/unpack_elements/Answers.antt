@@ -1,5 +1,4 @@
 -- `unpack::unpack_elements` meets its contract. Invariant: the kinds of the first i elements are laid. Assumes nothing.
-use Prim.Native.Nat.{◌-◌}
 use Rattle.unpack.proofs.Turns.{elements_none, element_more, elements_all}
 use Rattle.unpack.proofs.unpack_elements.Goals as goal
 

@@ -1,5 +1,4 @@
 -- `unpack::unpack_ids` meets its contract. Invariant: the first i ids are laid. Assumes nothing.
-use Prim.Native.Nat.{◌-◌}
 use Rattle.unpack.proofs.Turns.{ids_none, id_more, ids_all}
 use Rattle.unpack.proofs.unpack_ids.Goals as goal
 

@@ -1,5 +1,4 @@
 -- `unpack::unpack_processes` meets its contract. Invariant: the users of the first i processes are laid. Assumes nothing.
-use Prim.Native.Nat.{◌-◌}
 use Rattle.unpack.proofs.Turns.{processes_none, process_more, processes_all}
 use Rattle.unpack.proofs.unpack_processes.Goals as goal
 

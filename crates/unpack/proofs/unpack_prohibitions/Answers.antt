@@ -1,6 +1,5 @@
 -- `unpack::unpack_prohibitions` meets its contract. Invariant: the first i prohibitions are laid, and those left lie within the bits and have
 -- short lists. Assumes nothing.
-use Prim.Native.Nat.{◌-◌}
 use native.Mathlib.Omega.{arith}
 use lib.ListN.{length-set}
 use Rattle.unpack.proofs.Prohibitions.{passing_none, next_reaches, next_short, passing_more, passing_all}
