@@ -33,6 +33,7 @@ request_numbers p q (now e h) = absurd (clash h refl)
 request_numbers p q (next a (now e h)) = inl (sym e)
 request_numbers p q (next a (next b (now e h))) = inr (inl (sym e))
 request_numbers p q (next a (next b (next c (now e h)))) = inr (inr (sym e))
+request_numbers p q {n = n} (next a (next b (next c (next _ never)))) = elim never [ ]
 
 -- none of which is written as 10 is
 number_apart : (n : ℕ) → (n ≡ 2) ⊎ ((n ≡ 4) ⊎ (n ≡ 5)) → line R (n ∷ []) ≡ ten → ⊥

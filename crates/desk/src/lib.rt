@@ -1,5 +1,7 @@
 // The desk: what the desk program prints, as functions from input bytes to output bytes. One call tells how many bytes the length and the image are;
 // one reads the image and prints the first line; one answers a request and prints its line; one answers all requests of a piece and prints their lines.
+#![tactic(auto)]
+
 ghost use Rattle.std.specs.Prelude.{◌≡◌, [], ◌∷◌, ◌+◌, ◌*◌, ◌≤◌, ◌<◌, length};
 ghost use Rattle.model.specs.Bits.{bits_of};
 ghost use Rattle.model.specs.Contain.{contained};

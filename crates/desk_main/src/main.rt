@@ -1,9 +1,15 @@
 // The desk program: reads an image and requests from standard input and prints a line for each, as the crate `desk` says. Requests are read in
 // pieces of many whole ones, whatever their number; only the last piece can end with one that is cut short.
+#![tactic(auto)]
+
 ghost use Rattle.std.specs.Prelude.{◌≡◌, ◌≤◌, length};
 
 use desk::{Opened, Printed};
-use libc::{STDIN_FILENO, STDOUT_FILENO};
+
+// The numbers of standard input and standard output.
+const STDIN_FILENO: i32 = 0;
+
+const STDOUT_FILENO: i32 = 1;
 
 // Bytes of a piece: 819 requests.
 const PIECE: usize = 4095;

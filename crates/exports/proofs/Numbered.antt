@@ -51,6 +51,7 @@ first_number {n} {ls = l ∷ ls} t (now e h) =
     } in
     rw e at it
 first_number {ls = l ∷ ls} t (next h f) = first_number (and_right (leb 1 l.number && leb l.number 14) (listed_lines ls) t) f
+first_number {n = n} {ls = mathlib.Core.List.[]} t never = elim never [ ]
 
 -- a call that is answered by its lines is refused with a number of 01's where their numbers are
 pub lines_numbered : {A : Type 0} (a : A) (ls : List Line) → listed_lines ls ≡ true → Numbered (answer ls a)

@@ -1,4 +1,6 @@
 // The C face of the public calls. A lent slice is a pointer and a length; include/quandrilof.h says what a C caller must keep to.
+#![tactic(auto)]
+
 ghost use Rattle.std.specs.Prelude.{◌≡◌, ◌+◌, ◌*◌};
 ghost use Rattle.model.specs.Command.{create_class, create_element, assign, deassign, delete_element, create_association, delete_association, create_prohibition, delete_prohibition, start_process, end_process};
 ghost use Rattle.table.specs.Answers.{told as toldDone};

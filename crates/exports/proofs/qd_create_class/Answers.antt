@@ -1,0 +1,5 @@
+use Rattle.exports.proofs.Carried.{coded}
+use Rattle.exports.proofs.qd_create_class.Goals as goal
+
+pub returns : goal.returns
+returns c = search coded
