@@ -1,6 +1,5 @@
 -- `desk::put_lines` meets its contract: before each turn the lines of the first `at` bytes were put, and they have `used` bytes.
 -- Assumes nothing.
-use Prim.Native.Nat.{◌-◌}
 use Rattle.desk.proofs.Lined.{lined_none, line_room_lem, turn_five, turn_room, lined_turn, turn_fits, lines_whole, lines_cut}
 use Rattle.desk.proofs.put_lines.Goals as goal
 
