@@ -137,8 +137,8 @@ pub fn mark_row(
     requires blank { Blank seen.old }
     requires queue_len { length queue.old ≡ 512 }
     ensures row_marked { RowMarked mem.now x k rows.old rows.new }
-    ensures blank_2 { Blank seen.new }
-    ensures queue_len_2 { length queue.new ≡ 512 }
+    ensures blank_after { Blank seen.new }
+    ensures queue_len_after { length queue.new ≡ 512 }
 {
     let n = climb_on(mem, x, seen, queue, 0);
     let mut i = 0;

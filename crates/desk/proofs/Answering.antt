@@ -29,7 +29,7 @@ use Rattle.decide.specs.declared.Decision.TheVariants.{Grant as Grants, Deny as 
 use Rattle.decide.specs.Answers.{told as tells}
 use Rattle.explain.specs.declared.Explanation.{Explanation}
 use Rattle.explain.specs.declared.Explanation.TheVariants.{Deny}
-use Rattle.explain.specs.Answers.{told as explains, Left, left as leftNumbers, explaining}
+use Rattle.explain.specs.Answers.{told as explains, Left, left as left_numbers, explaining}
 use Rattle.explain.proofs.Answered.{one_explanation}
 use Rattle.explain.specs.Results.{first_why}
 use Rattle.explain.proofs.Theorems.{first_deny_row}
@@ -41,7 +41,7 @@ use Rattle.desk.specs.Printing.{line_room, first_line, answering, request_count,
 
 -- two lent rows suffice for a deny, so that its explanation is a deny
 pub deny_explained : {mem : List ℕ} {q : Request} → Table mem → Accepted mem q → verdict (contained (policy_of mem)) (policy_of mem) (request_of q) ≡ deny
-    → (r : Explanation) (room : List (List ℕ)) {why : List (List ℕ)} → 2 ≤ length room → leftNumbers r why ≡ explaining (memory mem) (request_of q) room
+    → (r : Explanation) (room : List (List ℕ)) {why : List (List ℕ)} → 2 ≤ length room → left_numbers r why ≡ explaining (memory mem) (request_of q) room
     → r ≡ Deny (length (rows (contained (policy_of mem)) (policy_of mem) (request_of q)))
 unfolding explaining explains
 deny_explained {mem} {q} t k d r room n e =
@@ -54,7 +54,7 @@ deny_explained {mem} {q} t k d r room n e =
 
 -- the line of a deny: the argument, the right, the cause and the number of the first row
 pub denial_put : {mem : List ℕ} {q : Request} → Table mem → Accepted mem q → verdict (contained (policy_of mem)) (policy_of mem) (request_of q) ≡ deny
-    → (r : Explanation) {why : List (List ℕ)} → leftNumbers r why ≡ explaining (memory mem) (request_of q) (replicate 2 (replicate 8 0))
+    → (r : Explanation) {why : List (List ℕ)} → left_numbers r why ≡ explaining (memory mem) (request_of q) (replicate 2 (replicate 8 0))
     → {out out' : List ℕ} {n : ℕ} → Typed (line 68 (first_why why)) 0 out out' n
     → Typed (deny_line (rows (contained (policy_of mem)) (policy_of mem) (request_of q))) 0 out out' n
 denial_put {mem} {q} t k d r {why} e w =

@@ -15,7 +15,7 @@ use Rattle.table.specs.declared.Outcome.TheVariants.{Done, Refused as Refuses}
 use Rattle.table.specs.Layout.{assignment_count, association_count, prohibition_count}
 use Rattle.table.specs.View.{policy_of}
 use Rattle.table.specs.Facts.{Table, AtMost}
-use Rattle.table.specs.Answers.{Left, left as leftWords, told as tells}
+use Rattle.table.specs.Answers.{Left, left as left_words, told as tells}
 use Rattle.table.proofs.Counted.{assignments_long, associations_long, prohibitions_long}
 use Rattle.table.proofs.Test.{table_of_lem}
 use Rattle.image.specs.Answers.{load_table}
@@ -36,7 +36,7 @@ counts_put mem x y z u v w =
     rw (← x.is, assignments_long mem, ← y, associations_long mem, ← z, prohibitions_long mem, ← u, ← v.is) w
 
 -- the words of an image that was accepted hold a table
-pub loaded_table : (image words words' : List ℕ) {r : Outcome} → r ≡ Done → leftWords r words' ≡ load_table image words → Table words'
+pub loaded_table : (image words words' : List ℕ) {r : Outcome} → r ≡ Done → left_words r words' ≡ load_table image words → Table words'
 loaded_table image words words' {r} d e = table_of_lem words' (load_table_lem image words r words' e d)
 
 -- The call that begins, on any words, any bytes and any room.
@@ -67,14 +67,14 @@ module _ (s words out : List ℕ) where
 
       module _ {k : ℕ} (m : k ≡ wanted_bytes s) (l : k ≤ length s) where
         -- what the image is answered: as load answers
-        answered : (r : Outcome) {words' : List ℕ} → leftWords r words' ≡ load_table (take (k - 2) (drop 2 s)) words → tells r words' ≡ image_answer s words
+        answered : (r : Outcome) {words' : List ℕ} → left_words r words' ≡ load_table (take (k - 2) (drop 2 s)) words → tells r words' ≡ image_answer s words
         unfolding image_answer
         answered r c =
             let z : k - 2 ≡ image_length s = omega (arith, (wanted_there s m l).1) in
             rw ((wanted_there s m l).0, ← z) (ap (λ (b : Left). b.answers) c)
 
         -- "An image refused is `L number`"
-        pub refused_printed : {r : Outcome} {n : ℕ} → r ≡ Refuses n → {words' : List ℕ} → leftWords r words' ≡ load_table (take (k - 2) (drop 2 s)) words
+        pub refused_printed : {r : Outcome} {n : ℕ} → r ≡ Refuses n → {words' : List ℕ} → left_words r words' ≡ load_table (take (k - 2) (drop 2 s)) words
             → {out' : List ℕ} {n' : ℕ} → Typed (line 76 (n ∷ [])) 0 out out' n' → allows.begin words s out (Closed n') words' out'
         unfolding tells
         refused_printed {r} d {words'} c w =
@@ -82,7 +82,7 @@ module _ (s words out : List ℕ) where
             rw (load_leaves (take (k - 2) (drop 2 s)) words r words' c d) (closed_printed (sym (rw d at x)) w)
 
         -- "It prints `P` and the five counts in image order", and the requests start behind the image
-        pub open_printed : {r : Outcome} → r ≡ Done → {words' : List ℕ} → leftWords r words' ≡ load_table (take (k - 2) (drop 2 s)) words
+        pub open_printed : {r : Outcome} → r ≡ Done → {words' : List ℕ} → left_words r words' ≡ load_table (take (k - 2) (drop 2 s)) words
             → {out' : List ℕ} {n : ℕ} → Typed (counts_line (policy_of words')) 0 out out' n → allows.begin words s out (Open n k) words' out'
         unfolding beginning told_begun answer kept head_line begun words_in tells
         open_printed {r} d {words'} c w =

@@ -4,7 +4,7 @@
 use Rattle.std.specs.Prelude.{◌≡◌, true, not, List, [], ◌∷◌, ◌↔◌, ℕ, ◌+◌, ◌*◌, ◌≤◌, ◌<◌, length, take}
 use Rattle.model.specs.Contain.{contained}
 use Rattle.model.specs.Refusal.{None, accepted}
-use Rattle.model.specs.Explain.{rows as rowsFor, joined}
+use Rattle.model.specs.Explain.{rows as rows_for, joined}
 use Rattle.model.specs.Calls.{over}
 use Rattle.model.specs.Desk.{line, D, R, deny_line, requests_of}
 use Rattle.table.specs.Layout.{word_count}
@@ -112,14 +112,14 @@ NeverTenAll = (words s room room' : List ℕ) (n : ℕ) → allows.answer_all wo
 
 -- how many rows a request has
 abbrev pub needed : (words : List ℕ) (q : Request) → ℕ
-needed words q = length (rowsFor (contained (policy_of words)) (policy_of words) (request_of q))
+needed words q = length (rows_for (contained (policy_of words)) (policy_of words) (request_of q))
 
 -- What two lent rows suffice for: the explanation e is a deny, with one row or two, and the first has the four numbers of the line.
 pub record TwoSuffice (words : List ℕ) (q : Request) (e : Explanation) (rows : List (List ℕ)) : Type 0 where
   pub is : e ≡ explanation.Deny (needed words q)
   pub some : 1 ≤ needed words q
   pub few : needed words q ≤ 2
-  pub printed : line D (first_why rows) ≡ deny_line (rowsFor (contained (policy_of words)) (policy_of words) (request_of q))
+  pub printed : line D (first_why rows) ≡ deny_line (rows_for (contained (policy_of words)) (policy_of words) (request_of q))
 
 -- two_rows_suffice. A request that is denied needs no more than two lent rows, whatever is lent.
 abbrev pub TwoRowsSuffice : Type 0

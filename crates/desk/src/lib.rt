@@ -223,7 +223,7 @@ fn image_length(s: &[u8]) -> usize
 // How many bytes the length and the image are, as the first bytes of the input say: two where the length is not there.
 pub fn wanted(s: &[u8]) -> usize
     ensures wanted { allows.wanted s.now result }
-    ensures lower_bound { (2 ≤ result) × (result ≤ 65537) }
+    ensures in_range { (2 ≤ result) × (result ≤ 65537) }
 {
     if s.len() < HEAD {
         return HEAD;

@@ -13,10 +13,10 @@ use Rattle.table.specs.Answers.{told, Left, left}
 use Rattle.table.specs.declared.Outcome.{Outcome}
 use Rattle.table.specs.declared.Outcome.TheVariants.{Done, Refused}
 use Rattle.command.specs.Commanded.{Commanded}
-use Rattle.index.specs.Answers.{left as leftIndex}
-use Rattle.image.specs.Answers.{saved, left as leftBytes}
+use Rattle.index.specs.Answers.{left as left_index}
+use Rattle.image.specs.Answers.{saved, left as left_bytes}
 use Rattle.image.specs.declared.Saved.{Saved}
-use Rattle.explain.specs.Answers.{told as toldExplained, Left as LeftRows, left as leftRows}
+use Rattle.explain.specs.Answers.{told as told_explained, Left as LeftRows, left as left_rows}
 use Rattle.explain.specs.declared.Explanation.{Explanation}
 use Rattle.exports.specs.Codes.{code, decision_code, yes_code, save_code, explain_code, Coded}
 
@@ -46,7 +46,7 @@ module _ (r : Outcome) {l : List ℕ} {t : Left} (k : left r l ≡ t) where
   words_left = ap (λ (b : Left). b.words) k
 
 -- building the index
-module _ (r : Outcome) {l : List ℕ} {t : Building} (k : leftIndex r l ≡ t) where
+module _ (r : Outcome) {l : List ℕ} {t : Building} (k : left_index r l ≡ t) where
   -- the code of its outcome is the code of what it is to answer
   pub index_code : {n : ℕ} → n ≡ code (told r r) → n ≡ code t.answers
   index_code e = e ∙ code_told r r l ∙ ap (λ (b : Building). code b.answers) k
@@ -56,7 +56,7 @@ module _ (r : Outcome) {l : List ℕ} {t : Building} (k : leftIndex r l ≡ t) w
   index_left = ap (λ (b : Building). b.index) k
 
 -- a save
-module _ (r : Saved) {l : List ℕ} {t : Saving} (k : leftBytes r l ≡ t) where
+module _ (r : Saved) {l : List ℕ} {t : Saving} (k : left_bytes r l ≡ t) where
   -- the code of what was told is the code of what it is to answer
   pub bytes_code : {n : ℕ} → n ≡ save_code (saved r) → n ≡ save_code t.answers
   bytes_code e = e ∙ ap (λ (b : Saving). save_code b.answers) k
@@ -66,9 +66,9 @@ module _ (r : Saved) {l : List ℕ} {t : Saving} (k : leftBytes r l ≡ t) where
   bytes_left = ap (λ (b : Saving). b.leaves) k
 
 -- an explanation
-module _ (r : Explanation) {l : List (List ℕ)} {t : LeftRows} (k : leftRows r l ≡ t) where
+module _ (r : Explanation) {l : List (List ℕ)} {t : LeftRows} (k : left_rows r l ≡ t) where
   -- the code of what was told is the code of what it is to answer
-  pub rows_code : {n : ℕ} → n ≡ explain_code (toldExplained r) → n ≡ explain_code t.answers
+  pub rows_code : {n : ℕ} → n ≡ explain_code (told_explained r) → n ≡ explain_code t.answers
   rows_code e = e ∙ ap (λ (b : LeftRows). explain_code b.answers) k
 
   -- the rows are those that it is to leave

@@ -3,11 +3,11 @@
 
 ghost use Rattle.std.specs.Prelude.{◌≡◌, ◌+◌, ◌*◌};
 ghost use Rattle.model.specs.Command.{create_class, create_element, assign, deassign, delete_element, create_association, delete_association, create_prohibition, delete_prohibition, start_process, end_process};
-ghost use Rattle.table.specs.Answers.{told as toldDone};
-ghost use Rattle.climb.specs.Answers.{told as toldContained};
+ghost use Rattle.table.specs.Answers.{told as told_done};
+ghost use Rattle.climb.specs.Answers.{told as told_contained};
 ghost use Rattle.index.specs.Answers.{matched};
-ghost use Rattle.decide.specs.Answers.{told as toldDecided};
-ghost use Rattle.explain.specs.Answers.{told as toldExplained};
+ghost use Rattle.decide.specs.Answers.{told as told_decided};
+ghost use Rattle.explain.specs.Answers.{told as told_explained};
 ghost use Rattle.store.specs.ProhibitionWords.{prohibition};
 ghost use Rattle.image.specs.Answers.{saved};
 ghost use Rattle.exports.specs.Codes.{code, decision_code, yes_code, save_code, explain_code, requested, Listed};
@@ -23,7 +23,7 @@ use table::Outcome;
 
 // The refusal number, 0 where there is none.
 fn number(r: Outcome) -> u32
-    ensures { result ≡ code (toldDone r r) }
+    ensures { result ≡ code (told_done r r) }
 {
     match r {
         Outcome::Done => 0,
@@ -33,8 +33,8 @@ fn number(r: Outcome) -> u32
 
 // The alternative that is granted, 0 for a deny, or 16 and the refusal number.
 fn decision_code(r: Decision) -> u32
-    requires { Listed (toldDecided r) }
-    ensures { result ≡ decision_code (toldDecided r) }
+    requires { Listed (told_decided r) }
+    ensures { result ≡ decision_code (told_decided r) }
 {
     match r {
         Decision::Grant(k) => k,
@@ -45,8 +45,8 @@ fn decision_code(r: Decision) -> u32
 
 // 1 for within, 0 for outside, or 16 and the refusal number.
 fn containment_code(r: Containment) -> u32
-    requires { Listed (toldContained r) }
-    ensures { result ≡ yes_code (toldContained r) }
+    requires { Listed (told_contained r) }
+    ensures { result ≡ yes_code (told_contained r) }
 {
     match r {
         Containment::Within => 1,
@@ -86,8 +86,8 @@ fn save_code(r: Saved) -> u64
 
 // The decision's code in the high half, the number of rows in the low half.
 fn explain_code(r: Explanation) -> u64
-    requires { Listed (toldExplained r) }
-    ensures { result ≡ explain_code (toldExplained r) }
+    requires { Listed (told_explained r) }
+    ensures { result ≡ explain_code (told_explained r) }
 {
     match r {
         Explanation::Grant(k, n) => pair(k, n),

@@ -26,11 +26,11 @@ use Rattle.unpack.specs.Words.{table_of}
 use Rattle.pack.proofs.Bounded.{bytes_few}
 use Rattle.image.specs.declared.Saved.{Saved}
 use Rattle.image.specs.declared.Saved.TheVariants.{Length}
-use Rattle.image.specs.Answers.{load_table, left as leftBytes}
+use Rattle.image.specs.Answers.{load_table, left as left_bytes}
 use Rattle.image.proofs.Theorems.{load_done, load_words, load_policy, load_table_lem, load_reads, save_none, save_done, save_writes}
 
 -- The table in mem was saved into n bytes.
-module _ (mem out : List ℕ) (n : ℕ) (out' : List ℕ) (call : leftBytes (Length n) out' ≡ save (memory mem) out) where
+module _ (mem out : List ℕ) (n : ℕ) (out' : List ℕ) (call : left_bytes (Length n) out' ≡ save (memory mem) out) where
   -- n is the image's length
   pub saved_length : n ≡ length (image_of (policy_of mem))
   saved_length = (save_none mem out (Length n) out' call refl).1
@@ -78,7 +78,7 @@ module _ (image words words' : List ℕ) (bytes : are_bytes image ≡ true) (cal
   image_again = image_written_back image bytes (policy_of words') (load_reads image words Done words' call refl)
 
   -- "Saving what load accepted gives the same image.": wherever it has room, and no byte beyond
-  module _ (out : List ℕ) (room : length image ≤ length out) (r : Saved) (out' : List ℕ) (again : leftBytes r out' ≡ save (memory words') out) where
+  module _ (out : List ℕ) (room : length image ≤ length out) (r : Saved) (out' : List ℕ) (again : left_bytes r out' ≡ save (memory words') out) where
     pub saved_again : r ≡ Length (length image)
     saved_again =
         save_done words' out r out' again
@@ -90,14 +90,14 @@ module _ (image words words' : List ℕ) (bytes : are_bytes image ≡ true) (cal
     bytes_again = save_writes words' out r out' again saved_again ∙ ap (λ (i : List ℕ). i ++ drop (length i) out) image_again
 
 -- two tables of sound policies that were saved as the same bytes are the same policy
-pub one_policy : (mem out : List ℕ) (n : ℕ) (out' : List ℕ) → leftBytes (Length n) out' ≡ save (memory mem) out → Sound (policy_of mem)
-    → (mem₂ out₂ : List ℕ) (n₂ : ℕ) (out₂' : List ℕ) → leftBytes (Length n₂) out₂' ≡ save (memory mem₂) out₂ → Sound (policy_of mem₂)
+pub one_policy : (mem out : List ℕ) (n : ℕ) (out' : List ℕ) → left_bytes (Length n) out' ≡ save (memory mem) out → Sound (policy_of mem)
+    → (mem₂ out₂ : List ℕ) (n₂ : ℕ) (out₂' : List ℕ) → left_bytes (Length n₂) out₂' ≡ save (memory mem₂) out₂ → Sound (policy_of mem₂)
     → take n out' ≡ take n₂ out₂' → policy_of mem ≡ policy_of mem₂
 one_policy mem out n out' call s mem₂ out₂ n₂ out₂' call₂ s₂ e =
     image_unique (policy_of mem) (policy_of mem₂) s s₂ (sym (image_of_policy mem out n out' call) ∙ e ∙ image_of_policy mem₂ out₂ n₂ out₂' call₂)
 
 -- "The longest image is 15,115 bytes.": a table is saved wherever there are as many
-pub room_enough : (mem out : List ℕ) (r : Saved) (out' : List ℕ) → leftBytes r out' ≡ save (memory mem) out → holds_table mem ≡ true → 15115 ≤ length out
+pub room_enough : (mem out : List ℕ) (r : Saved) (out' : List ℕ) → left_bytes r out' ≡ save (memory mem) out → holds_table mem ≡ true → 15115 ≤ length out
     → r ≡ Length (length (image_of (policy_of mem)))
 room_enough mem out r out' call t h =
     save_done mem out r out' call

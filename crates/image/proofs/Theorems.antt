@@ -22,7 +22,7 @@ use Rattle.unpack.specs.Words.{table_of}
 use Rattle.unpack.proofs.StowedSound.{sound_table}
 use Rattle.image.specs.declared.Saved.{Saved}
 use Rattle.image.specs.declared.Saved.TheVariants as save-is
-use Rattle.image.specs.Answers.{load_table, saved, left as leftBytes}
+use Rattle.image.specs.Answers.{load_table, saved, left as left_bytes}
 
 -- Load: an image, the words before, the answer and the words after it.
 module _ (image words : List ℕ) (r : Outcome) (words' : List ℕ) (call : left r words' ≡ load_table image words) where
@@ -116,12 +116,12 @@ one_saved (save-is.Refused m) (save-is.Length n) e = never (cc)
 one_saved (save-is.Refused m) (save-is.Refused n) e = let z : m ≡ n = cc in ap save-is.Refused z
 
 -- save has one answer, and leaves the same bytes
-pub save_unique : (mem out : List ℕ) {r s : Saved} {l m : List ℕ} → leftBytes r l ≡ save (memory mem) out → leftBytes s m ≡ save (memory mem) out → (r ≡ s) × (l ≡ m)
+pub save_unique : (mem out : List ℕ) {r s : Saved} {l m : List ℕ} → left_bytes r l ≡ save (memory mem) out → left_bytes s m ≡ save (memory mem) out → (r ≡ s) × (l ≡ m)
 save_unique mem out {r} {s} p q =
     (one_saved r s (ap (λ (b : Saving). b.answers) (p ∙ sym q)), ap (λ (b : Saving). b.leaves) (p ∙ sym q))
 
 -- Save: the memory, the lent bytes, the answer and the bytes after it.
-module _ (mem out : List ℕ) (r : Saved) (out' : List ℕ) (call : leftBytes r out' ≡ save (memory mem) out) where
+module _ (mem out : List ℕ) (r : Saved) (out' : List ℕ) (call : left_bytes r out' ≡ save (memory mem) out) where
   -- the image
   abbrev image : List ℕ
   image = image_of (policy_of mem)

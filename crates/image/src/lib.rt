@@ -5,7 +5,7 @@ ghost use Rattle.std.specs.Prelude.{◌≡◌, length, replicate};
 ghost use Rattle.model.specs.Calls.{save as saving};
 ghost use Rattle.table.specs.View.{memory};
 ghost use Rattle.table.specs.Facts.{Table, AtMost};
-ghost use Rattle.table.specs.Answers.{left as leftWords};
+ghost use Rattle.table.specs.Answers.{left as left_words};
 ghost use Rattle.image.specs.Answers.{load_table, table_refusal, table_end, Read, Ended, left};
 
 use table::Outcome;
@@ -75,7 +75,7 @@ fn copy(mem: &mut [u32], fresh: &[u32])
 
 // Makes the memory the table of the image's policy, or refuses: 1 for the memory's length, 11 to 14 for the image.
 pub fn load(mem: &mut [u32], s: &[u8]) -> Outcome
-    ensures { leftWords result mem.new ≡ load_table s.now mem.old }
+    ensures { left_words result mem.new ≡ load_table s.now mem.old }
 {
     if mem.len() != table::WORDS {
         return Outcome::Refused(1);

@@ -4,9 +4,9 @@
 ghost use Rattle.std.specs.Prelude.{◌≡◌, ◌+◌, ◌*◌, ◌^◌, ◌≤◌, ◌<◌, length};
 ghost use Rattle.model.specs.Bits.{bits_of};
 ghost use Rattle.model.specs.Image.{other_form};
-ghost use Rattle.model.specs.Refusal.{refusal as firstRefusal};
-ghost use Rattle.measure.specs.Places.{Counted, Reaches, behind as placeBehind, up_to};
-ghost use Rattle.measure.specs.Sizes.{misfits as doesMisfit, strays_from, size_lines};
+ghost use Rattle.model.specs.Refusal.{refusal as first_refusal};
+ghost use Rattle.measure.specs.Places.{Counted, Reaches, behind as place_behind, up_to};
+ghost use Rattle.measure.specs.Sizes.{misfits as does_misfit, strays_from, size_lines};
 
 use bits::Cursor;
 
@@ -63,7 +63,7 @@ pub fn head(s: &[u8]) -> Counts
 pub fn behind(s: &[u8], at: usize, n: usize) -> usize
     requires s_len_bound { length s.now ≤ 2 ^ 32 }
     requires at_bound { at < 2 ^ 32 }
-    ensures { result ≡ up_to (8 * length s.now) (placeBehind (bits_of s.now) at n) }
+    ensures { result ≡ up_to (8 * length s.now) (place_behind (bits_of s.now) at n) }
 {
     let all = 8 * s.len();
     let mut p = at;
@@ -103,7 +103,7 @@ fn strays(s: &[u8], end: usize) -> bool
 // Whether the image is cut, longer than its fields, or has a filling bit set.
 fn misfits(s: &[u8]) -> bool
     requires { length s.now ≤ 2 ^ 32 }
-    ensures { result ≡ doesMisfit s.now }
+    ensures { result ≡ does_misfit s.now }
 {
     let all = 8 * s.len();
     if all < HEAD {
@@ -135,7 +135,7 @@ fn is_other_form(s: &[u8]) -> bool
 
 // 11 or 12, the first that holds of the image, 0 where neither does.
 pub fn refusal(s: &[u8]) -> u32
-    ensures { result ≡ firstRefusal (size_lines s.now) }
+    ensures { result ≡ first_refusal (size_lines s.now) }
 {
     if s.len() == 0 {
         return 12;

@@ -59,15 +59,15 @@ pub record Making : Type 0 where
   pub table : Policy
 
 -- New: "the working memory has another length than the published one" is its only refusal.
-unfoldable pub new : (lengthFits : Bool) (old : Policy) → Making
-new lengthFits old =
-    let told = answer (new_lines lengthFits) empty_policy in
+unfoldable pub new : (length_fits : Bool) (old : Policy) → Making
+new length_fits old =
+    let told = answer (new_lines length_fits) empty_policy in
     record { answers = told; table = kept told empty_policy old }
 
 -- Load.
-unfoldable pub load : (lengthFits : Bool) (image : List ℕ) (old : Policy) → Making
-load lengthFits image old =
-    let told = answer (load_lines lengthFits image) (policy_in image) in
+unfoldable pub load : (length_fits : Bool) (image : List ℕ) (old : Policy) → Making
+load length_fits image old =
+    let told = answer (load_lines length_fits image) (policy_in image) in
     record { answers = told; table = kept told (policy_in image) old }
 
 -- Save: the answer carries the length; the lent bytes afterwards.

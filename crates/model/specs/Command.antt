@@ -171,8 +171,8 @@ command_lines m p (end_process i) =
     ∷ []
 
 -- The line of the call new: the memory's length alone.
-abbrev pub new_lines : (lengthFits : Bool) → List Line
-new_lines lengthFits = (1 when not lengthFits) ∷ []
+abbrev pub new_lines : (length_fits : Bool) → List Line
+new_lines length_fits = (1 when not length_fits) ∷ []
 
 -- A command given a table and an index of the right length: its refusal number, 0 where it is accepted.
 unfoldable pub command_refusal : Policy → Command → ℕ

@@ -182,8 +182,8 @@ image_lines s =
     ∷ []
 
 -- The lines of load.
-abbrev pub load_lines : (lengthFits : Bool) → List ℕ → List Line
-load_lines lengthFits s = (1 when not lengthFits) ∷ image_lines s
+abbrev pub load_lines : (length_fits : Bool) → List ℕ → List Line
+load_lines length_fits s = (1 when not length_fits) ∷ image_lines s
 
 -- what an image is read as: a policy, or the refusal number
 unfoldable pub read_image : List ℕ → Answer Policy

@@ -6,7 +6,7 @@ use Rattle.model.specs.Policy.{Policy, user, user_attribute, object, object_attr
 use Rattle.model.specs.Rule.{held, restricted}
 use Rattle.model.specs.Refusal.{Line, ◌when◌, Lent, no_table, bad_index, Answer, answer}
 
--- "Rights: 0 read, 1 write, 2 find, 3 print, 4 move, 5 take_out, 6 put_in, 7 assign_from, 8 assign_to, 9 deassign_from, 10 deassign_to,
+-- "Rights: 0 read, 1 write, 2 find, 3 print, 4 move, 5 take-out, 6 put-in, 7 assign-from, 8 assign-to, 9 deassign-from, 10 deassign-to,
 -- 11 assoc-from, 12 assoc-to; the rest are spare."
 abbrev pub read : ℕ
 read = 0

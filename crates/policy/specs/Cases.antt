@@ -26,19 +26,19 @@ Decides (refuses n) r = r ≡ decision.Refused n
 Decides accepts r = ⊥
 
 -- the first of the rows has this cause and this number
-pub record FirstRow {R : Type 0} (causeAt number_at : R → ℕ) (rows : List R) (cause number : ℕ) : Type 0 where
+pub record FirstRow {R : Type 0} (cause_at number_at : R → ℕ) (rows : List R) (cause number : ℕ) : Type 0 where
   pub row : R
   pub others : List R
   pub first : rows ≡ row ∷ others
-  pub its_cause : causeAt row ≡ cause
+  pub its_cause : cause_at row ≡ cause
   pub its_number : number_at row ≡ number
 
 -- of an explanation, with the rows that it leaves: of a deny the first row tells the cause and the number
-unfoldable pub Explains : {R : Type 0} (causeAt number_at : R → ℕ) → Expected → Explanation → (rows : List R) → Type 0
-Explains causeAt number_at (grants k) r rows = (n : ℕ) × (r ≡ explanation.Grant k n)
-Explains causeAt number_at (denies cause number) r rows = ((n : ℕ) × (r ≡ explanation.Deny n)) × FirstRow causeAt number_at rows cause number
-Explains causeAt number_at (refuses n) r rows = r ≡ explanation.Refused n
-Explains causeAt number_at accepts r rows = ⊥
+unfoldable pub Explains : {R : Type 0} (cause_at number_at : R → ℕ) → Expected → Explanation → (rows : List R) → Type 0
+Explains cause_at number_at (grants k) r rows = (n : ℕ) × (r ≡ explanation.Grant k n)
+Explains cause_at number_at (denies cause number) r rows = ((n : ℕ) × (r ≡ explanation.Deny n)) × FirstRow cause_at number_at rows cause number
+Explains cause_at number_at (refuses n) r rows = r ≡ explanation.Refused n
+Explains cause_at number_at accepts r rows = ⊥
 
 -- of a command
 unfoldable pub Commands : Expected → Outcome → Type 0

@@ -9,7 +9,7 @@ use Rattle.model.specs.Contain.{Within, contained}
 use Rattle.model.specs.Sound.{Sound}
 use Rattle.model.specs.Refusal.{Line, First, None}
 use Rattle.model.specs.Request.{Alternative, arguments_of, kinds_of, alternatives_of, request_lines, indexed_lines}
-use Rattle.model.specs.Explain.{rows as rowsFor, explain_lines}
+use Rattle.model.specs.Explain.{rows as rows_for, explain_lines}
 use Rattle.model.specs.Command.{Command, new_lines, command_lines}
 use Rattle.model.specs.Image.{image_of, load_lines, save_lines}
 use Rattle.model.specs.Index.{index_of, bit_at, index_lines, contain_lines}
@@ -145,7 +145,7 @@ pub record RowsExact : Type 0 where
   -- it answers as the plain decision does, with the number of rows; and 10 exactly where the decision is no refusal and the lent rows are too few
   pub as_decided : (words : List ℕ) (q : Request) (rows rows' : List (List ℕ)) (r : Explanation) → allows.explain_numbers words q rows r rows'
       → (d : Decision) → allows.decide words q d
-      → AsDecided d (length rows) (length (rowsFor (contained (policy_of words)) (policy_of words) (request_of q))) r
+      → AsDecided d (length rows) (length (rows_for (contained (policy_of words)) (policy_of words) (request_of q))) r
   -- an accepted one leaves the rows of the request in front, as many as it answers, and every other row as it was; a refused one every row as it was
   pub in_front : (words : List ℕ) (q : Request) (rows rows' : List (List ℕ)) (r : Explanation) → allows.explain_numbers words q rows r rows'
       → RowsInFront r (numbers (policy_of words) (request_of q)) rows rows'

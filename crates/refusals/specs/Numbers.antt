@@ -7,7 +7,7 @@ use Rattle.model.specs.Command.{Command, command_lines}
 use Rattle.table.specs.View.{holds_table, policy_of}
 
 -- 0 where the command is accepted
-unfoldable pub refusal_of : (mem : List ℕ) (indexLength : ℕ) → Command → ℕ
+unfoldable pub refusal_of : (mem : List ℕ) (index_length : ℕ) → Command → ℕ
 refusal_of mem n c = refusal (command_lines (record { holds_table = holds_table mem; index = n }) (policy_of mem) c)
 
 -- the same of the lines behind the first two, which ask for a table and for what is in range

@@ -22,22 +22,22 @@ module _ {A B : Type 0} (f : A → B) where
   map_tabulate (suc n) g = ap (λ l. f (g 0) ∷ l) (map_tabulate n (λ i. g (suc i)))
 
   -- a list rises as what its members denote does, where f keeps the order
-  pub map_rising : (keyA : A → List ℕ) (keyB : B → List ℕ) (l : List A)
-      → ((a b : A) → In a l → In b l → before (keyA a) (keyA b) ≡ before (keyB (f a)) (keyB (f b))) → rising keyA l ≡ rising keyB (map f l)
+  pub map_rising : (key_a : A → List ℕ) (key_b : B → List ℕ) (l : List A)
+      → ((a b : A) → In a l → In b l → before (key_a a) (key_a b) ≡ before (key_b (f a)) (key_b (f b))) → rising key_a l ≡ rising key_b (map f l)
   unfolding rising precedes
-  map_rising keyA keyB [] h = refl
-  map_rising keyA keyB (a ∷ []) h = refl
-  map_rising keyA keyB (a ∷ b ∷ l) h = ap₂ ◌&&◌ (h a b first (later first)) (map_rising keyA keyB (b ∷ l) (λ x y i j. h x y (later i) (later j)))
+  map_rising key_a key_b [] h = refl
+  map_rising key_a key_b (a ∷ []) h = refl
+  map_rising key_a key_b (a ∷ b ∷ l) h = ap₂ ◌&&◌ (h a b first (later first)) (map_rising key_a key_b (b ∷ l) (λ x y i j. h x y (later i) (later j)))
 
   -- one put in its place, where f keeps the order
-  pub map_put : (keyA : A → List ℕ) (keyB : B → List ℕ) (a : A) (l : List A) → ((b : A) → In b l → before (keyA a) (keyA b) ≡ before (keyB (f a)) (keyB (f b)))
-      → map f (put keyA a l) ≡ put keyB (f a) (map f l)
+  pub map_put : (key_a : A → List ℕ) (key_b : B → List ℕ) (a : A) (l : List A) → ((b : A) → In b l → before (key_a a) (key_a b) ≡ before (key_b (f a)) (key_b (f b)))
+      → map f (put key_a a l) ≡ put key_b (f a) (map f l)
   unfolding put
-  map_put keyA keyB a [] h = refl
-  map_put keyA keyB a (b ∷ l) h = go (before (keyA a) (keyA b)) refl (map_put keyA keyB a l (λ c i. h c (later i)))
+  map_put key_a key_b a [] h = refl
+  map_put key_a key_b a (b ∷ l) h = go (before (key_a a) (key_a b)) refl (map_put key_a key_b a l (λ c i. h c (later i)))
     where
-      go : (t : Bool) → before (keyA a) (keyA b) ≡ t → map f (put keyA a l) ≡ put keyB (f a) (map f l)
-          → map f (cond (before (keyA a) (keyA b)) (a ∷ b ∷ l) (b ∷ put keyA a l)) ≡ cond (before (keyB (f a)) (keyB (f b))) (f a ∷ f b ∷ map f l) (f b ∷ put keyB (f a) (map f l))
+      go : (t : Bool) → before (key_a a) (key_a b) ≡ t → map f (put key_a a l) ≡ put key_b (f a) (map f l)
+          → map f (cond (before (key_a a) (key_a b)) (a ∷ b ∷ l) (b ∷ put key_a a l)) ≡ cond (before (key_b (f a)) (key_b (f b))) (f a ∷ f b ∷ map f l) (f b ∷ put key_b (f a) (map f l))
       go true q r = rw (← h b first, q) refl
       go false q r = rw (← h b first, q) (ap (λ m. f b ∷ m) r)
 

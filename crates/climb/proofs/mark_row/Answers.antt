@@ -24,5 +24,5 @@ loop-i-preserved c = (omega arith, search moved_more)
 pub returns-clause-row_marked : goal.returns-clause-row_marked
 returns-clause-row_marked c = search moved_all
 
-pub returns-clause-blank_2 : goal.returns-clause-blank_2
-returns-clause-blank_2 c = search moved_blank
+pub returns-clause-blank_after : goal.returns-clause-blank_after
+returns-clause-blank_after c = search moved_blank

@@ -104,7 +104,7 @@ module _ (p : Policy) (s : Parts p) where
       let new : Element = record { id = x; kind = n } in
       let own : Assignment = record { child = x; container = y } in
       let ranges = or_fails (not (is_element_id x) || not (is_kind n)) (not (is_element_id y)) (line 2) in
-      let idKind = both_pass (is_element_id x) (is_kind n) ranges.0 in
+      let id_kind = both_pass (is_element_id x) (is_kind n) ranges.0 in
       let z : kind_of p x ≡ 0 = absent p x (or_fails (is_there p x) (is_assigned p x y) (line 3)).0 in
       let other : x ≡ y → ⊥ = other_than_absent p x (λ k. not (eqb k 0)) (λ h. clash h refl) z y (not-false (is_there p y) (line 4)) in
       let pair : allowed n (kind_of p y) ≡ true = not-false (allowed n (kind_of p y)) (or_fails (eqb n class) (not (allowed n (kind_of p y))) (line 5)).1 in
@@ -113,12 +113,12 @@ module _ (p : Policy) (s : Parts p) where
       let order = rising_put element_key new p.elements s.elements.order (new_element new z) in
       record {
         elements = group_put (more_assigned own s.elements) new
-            (and_join (is_element_id x) (is_kind n) idKind.0 idKind.1)
+            (and_join (is_element_id x) (is_kind n) id_kind.0 id_kind.1)
             (or_right (eqb n class) (any_of (λ a. eqb a.child x) (put assignment_fields own p.assignments))
             (any_in (λ a. eqb a.child x) (put_itself assignment_fields own p.assignments) (eq-eqb x x refl)))
             (new_element new z);
         rest = one_assignment_more q (one_element_more p s.rest new z) own
-            (and_join (is_element_id x) (is_element_id y) idKind.0 (not-false (is_element_id y) ranges.1))
+            (and_join (is_element_id x) (is_element_id y) id_kind.0 (not-false (is_element_id y) ranges.1))
             (rw (put_read kinds new p.elements order, put_others kinds new p.elements y other) pair)
             (λ b i. other_same (assignment_fields own) (assignment_fields b) (λ h. free.child b i (ap (λ l. get_or l 0 0) h)))
             (λ w. other (end_unreached free.container w))
