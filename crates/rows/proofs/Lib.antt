@@ -1,4 +1,5 @@
 pub mod Filled
+pub mod Local
 pub mod Answered
 pub mod Few
 pub mod Telling
