@@ -1,10 +1,9 @@
 -- Numbers in bits at a place: what a read there answers, and what the bits are after a write there.
 -- Assumes nothing.
-use Rattle.std.specs.Prelude.{◌≡◌, Bool, List, [], ◌∷◌, ◌++◌, ℕ, ◌+◌, ◌*◌, ◌^◌, ◌≤◌, ◌<◌, ltb, length, take, drop}
+use Rattle.std.specs.Prelude.{◌≡◌, Option, Some, None, Bool, List, [], ◌∷◌, ◌++◌, ℕ, ◌+◌, ◌*◌, ◌^◌, ◌≤◌, ◌<◌, ltb, length, take, drop}
 use Rattle.model.specs.Bits.{bits_n, bits_of, bytes_of, num_at}
 use Rattle.model.specs.Refusal.{Line, ◌when◌, Answer, refused, accepted, answer}
-use Rattle.bits.specs.declared.Fetched.{Fetched}
-use Rattle.bits.specs.declared.Fetched.TheVariants.{Got, Cut}
+use Rattle.bits.specs.declared.Bits.{Bits}
 
 -- what a read gives: the number that the bits spell, and the place of the next bit
 pub record Piece : Type 0 where
@@ -20,9 +19,9 @@ unfoldable pub reading : List Bool → (at n : ℕ) → Answer Piece
 reading l at n = answer (read_lines l at n) (record { value = num_at l at n; next = at + n })
 
 -- the answer that a read's two cases stand for: a number and the place behind it, or refusal 12
-abbrev pub told : Fetched → Answer Piece
-told (Got v c) = accepted (record { value = v; next = c.at })
-told Cut = refused 12
+abbrev pub told : Option Bits → Answer Piece
+told (Some b) = accepted (record { value = b.value; next = b.next.at })
+told None = refused 12
 
 -- the bits with others in their place, from the place `at` on
 unfoldable pub written : List Bool → (at : ℕ) → List Bool → List Bool

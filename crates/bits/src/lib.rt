@@ -18,28 +18,6 @@ pub struct Bits {
     pub next: Cursor,
 }
 
-// A number and the place behind it, or that the bits end before it does.
-#[derive(Clone, Copy)]
-pub enum Fetched {
-    Got(u32, Cursor),
-    Cut,
-}
-
-// The lesser of two, neither of them 0.
-fn lesser(a: u32, b: u32) -> u32
-    requires { (0 < a) × (0 < b) }
-    ensures { (0 < result) × (result ≤ a) × (result ≤ b) }
-{
-    if a < b { a } else { b }
-}
-
-// A byte as a number of 32 bits.
-fn wide(b: u8) -> u32
-    ensures { result ≡ b }
-{
-    b as u32
-}
-
 // The t bits of x above its k low ones.
 fn chunk(x: u32, k: u32, t: u32) -> u32
     requires { (k < 32) × (t < 32) }
@@ -61,7 +39,7 @@ fn patch(b: u8, k: u32, t: u32, c: u32) -> u8
     requires { (t + k ≤ 8) × (c < 2 ^ t) }
     ensures { result ≡ (b / 2 ^ (t + k) * 2 ^ t + c) * 2 ^ k + b % 2 ^ k }
 {
-    let w = wide(b);
+    let w = u32::from(b);
     let low = chunk(w, 0, k);
     let high = join(w >> (t + k), c, t);
     let whole = join(high, low, k);
@@ -69,22 +47,20 @@ fn patch(b: u8, k: u32, t: u32, c: u32) -> u8
 }
 
 impl Cursor {
-    // The n bits of s from here on, of any bytes and at any place.
-    pub fn read(self, s: &[u8], n: u32) -> Fetched
+    // The n bits of s from here on, of any bytes and at any place; none where the bytes end before.
+    pub fn read(self, s: &[u8], n: u32) -> Option<Bits>
         requires { (1 ≤ n) × (n ≤ 32) × (length s.now ≤ 2 ^ 32) }
         ensures { told result ≡ reading (bits_of s.now) self.at n }
     {
         let at = self.at;
         let all = 8 * s.len();
         if all < at {
-            return Fetched::Cut;
+            return None;
         }
         if all - at < n as usize {
-            return Fetched::Cut;
+            return None;
         }
-        let b = Cursor { at }.take(s, n);
-        let next = b.next;
-        Fetched::Got(b.value, next)
+        Some(Cursor { at }.take(s, n))
     }
 
     // The n bits of s from here on, where they are there: a byte's part in each turn.
@@ -92,15 +68,14 @@ impl Cursor {
         requires { There s.now self.at n }
         ensures { Taken s.now self.at n result.value result.next.at }
     {
-        let at = self.at;
-        let mut value: u32 = 0;
+        let mut value = 0;
         let mut left = n;
-        let mut p = at;
+        let mut p = self.at;
+        // A while: the place moves by as many bits as the turn takes.
         while 0 < left {
             let o = (p % 8) as u32;
-            let t = lesser(8 - o, left);
-            let i = p / 8;
-            let c = chunk(wide(s[i]), 8 - o - t, t);
+            let t = left.min(8 - o);
+            let c = chunk(u32::from(s[p / 8]), 8 - o - t, t);
             value = join(value, c, t);
             left -= t;
             p += t as usize;
@@ -116,16 +91,15 @@ impl Cursor {
         requires { There out.old self.at n }
         ensures { Written out.old out.new self.at n v result.at }
     {
-        let at = self.at;
         let mut left = n;
-        let mut p = at;
+        let mut p = self.at;
+        // A while: the place moves by as many bits as the turn takes.
         while 0 < left {
             let o = (p % 8) as u32;
-            let t = lesser(8 - o, left);
+            let t = left.min(8 - o);
             left -= t;
             let c = chunk(v, left, t);
-            let byte = p / 8;
-            out[byte] = patch(out[byte], 8 - o - t, t, c);
+            out[p / 8] = patch(out[p / 8], 8 - o - t, t, c);
             p += t as usize;
         }
         Cursor { at: p }

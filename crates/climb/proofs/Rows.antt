@@ -9,8 +9,8 @@ use native.Mathlib.Decide.{ℕ_discrete, dec_lt}
 use borrow.Author.Tests.{eqb-true, eqb-false, eq-eqb, ne_eqb}
 use lib.Bits.{bit_or}
 use lib.Dec.{eqb}
-use lib.ListN.{length, get_or, set, length-set, get_or-eq_default}
-use lib.Seq.{get_or-set_same, get_or-set_other}
+use lib.ListN.{length, get_or, set, take, length-set, length-take, get_or-eq_default}
+use lib.Seq.{get_or-set_same, get_or-set_other, get_or-take}
 use Rattle.model.specs.Lists.{any_of, tabulate}
 use Rattle.model.specs.Contain.{contained}
 use Rattle.model.specs.Bits.{digit, odd}
@@ -122,36 +122,40 @@ and_more false true c d = refl
 and_more false false c d = refl
 
 module _ {mem : List ℕ} {x : ℕ} {seen₀ seen queue : List ℕ} {n : ℕ} (f : Further mem x seen₀ seen queue n) where
+  -- the part of the queue that is queued has n elements
+  part_long : length (take n queue) ≡ n
+  part_long = omega (arith, length-take n queue, f.still.good.room, f.still.good.short)
+
+  -- its elements are the queue's
+  part_at : {i : ℕ} → i < length (take n queue) → get_or (take n queue) i 0 ≡ get_or queue i 0
+  part_at {i} l = get_or-take n queue i 0 (omega (arith, part_long))
+
   -- what is queued is below 512
-  pub queued_small : {i : ℕ} → i < n → get_or queue i 0 < 512
-  queued_small {i} l = marked_small f.still.good (get_or queue i 0) (f.still.good.marked i l)
+  pub queued_small : {i : ℕ} → i < length (take n queue) → get_or (take n queue) i 0 < 512
+  queued_small {i} l = rw (part_at l) (marked_small f.still.good (get_or queue i 0) (f.still.good.marked i (omega (arith, part_long))))
 
-  -- so it fits 64 bits
-  pub queued_word : {i : ℕ} → i < n → get_or queue i 0 < 2 ^ 64
-  queued_word {i} l = omega (arith, queued_small l)
-
-  module _ {k i : ℕ} {rows rows' seen' rows'' : List ℕ} (l : i < n) (m : Moved k queue i rows seen rows' seen') (s : BitSet k (get_or queue i 0) rows' rows'') where
+  module _ {k i : ℕ} {rows rows' seen' rows'' : List ℕ} (l : i < length (take n queue)) (m : Moved k (take n queue) i rows seen rows' seen') (s : BitSet k (get_or (take n queue) i 0) rows' rows'') where
     -- its mark is cleared, and those before stay so
-    cleared_more : (y : ℕ) → early queue (i + 1) y ≡ true → get_or (set seen' (get_or queue i 0) 0) y 0 ≡ 0
-    cleared_more y e = elim (ℕ_discrete y (get_or queue i 0)) [
-      | yes q ↦ rw q (get_or-set_same seen' (get_or queue i 0) 0 0 (omega (arith, queued_small l, m.marks, f.still.good.marks)))
+    cleared_more : (y : ℕ) → early (take n queue) (i + 1) y ≡ true → get_or (set seen' (get_or (take n queue) i 0) 0) y 0 ≡ 0
+    cleared_more y e = elim (ℕ_discrete y (get_or (take n queue) i 0)) [
+      | yes q ↦ rw q (get_or-set_same seen' (get_or (take n queue) i 0) 0 0 (omega (arith, queued_small l, m.marks, f.still.good.marks)))
       | no d ↦
-          get_or-set_other seen' (get_or queue i 0) y 0 0 d
-          ∙ m.cleared y (rw (early_more queue i y, ne_eqb y (get_or queue i 0) d, or-false (early queue i y)) at e)
+          get_or-set_other seen' (get_or (take n queue) i 0) y 0 0 d
+          ∙ m.cleared y (rw (early_more (take n queue) i y, ne_eqb y (get_or (take n queue) i 0) d, or-false (early (take n queue) i y)) at e)
     ]
 
     -- the others are kept
-    kept_more : (y : ℕ) → early queue (i + 1) y ≡ false → get_or (set seen' (get_or queue i 0) 0) y 0 ≡ get_or seen y 0
+    kept_more : (y : ℕ) → early (take n queue) (i + 1) y ≡ false → get_or (set seen' (get_or (take n queue) i 0) 0) y 0 ≡ get_or seen y 0
     kept_more y e =
-        let o = or_fails (early queue i y) (eqb y (get_or queue i 0)) (sym (early_more queue i y) ∙ e) in
-        get_or-set_other seen' (get_or queue i 0) y 0 0 (eqb-false y (get_or queue i 0) o.1) ∙ m.kept y o.0
+        let o = or_fails (early (take n queue) i y) (eqb y (get_or (take n queue) i 0)) (sym (early_more (take n queue) i y) ∙ e) in
+        get_or-set_other seen' (get_or (take n queue) i 0) y 0 0 (eqb-false y (get_or (take n queue) i 0) o.1) ∙ m.kept y o.0
 
     -- so one more is moved
-    pub moved_more : Moved k queue (i + 1) rows seen rows'' (set seen' (get_or queue i 0) 0)
+    pub moved_more : Moved k (take n queue) (i + 1) rows seen rows'' (set seen' (get_or (take n queue) i 0) 0)
     moved_more = record {
       size = s.size ∙ m.size;
-      marks = length-set seen' (get_or queue i 0) 0 ∙ m.marks;
-      is = λ j y b. s.is j y b ∙ rw (m.is j y b, early_more queue i y) (and_more (bit_at rows j y) (eqb j k) (early queue i y) (eqb y (get_or queue i 0)));
+      marks = length-set seen' (get_or (take n queue) i 0) 0 ∙ m.marks;
+      is = λ j y b. s.is j y b ∙ rw (m.is j y b, early_more (take n queue) i y) (and_more (bit_at rows j y) (eqb j k) (early (take n queue) i y) (eqb y (get_or (take n queue) i 0)));
       cleared = cleared_more;
       kept = kept_more;
     }
@@ -162,20 +166,23 @@ module _ {mem : List ℕ} {x : ℕ} {seen₀ seen queue : List ℕ} {n : ℕ} (f
     mark_is y l = ap (λ (s : List ℕ). get_or s y 0) (first_marks b f) ∙ mark_digit mem x y l
 
     -- and just that is queued
-    queued_is : (y : ℕ) → y < 512 → early queue n y ≡ contained (policy_of mem) x y
+    queued_is : (y : ℕ) → y < 512 → early (take n queue) n y ≡ contained (policy_of mem) x y
     unfolding digit
-    queued_is y l = same_truth (early queue n y) (contained (policy_of mem) x y)
+    queued_is y l = same_truth (early (take n queue) n y) (contained (policy_of mem) x y)
         (λ e.
-        let a = early_at queue n y e in
-        digit_one (contained (policy_of mem) x y) (sym (mark_is y l) ∙ subst (Marked seen) a.is (f.still.good.marked a.at a.early)))
-        (λ e. at_early queue n y (f.still.good.listed y l (mark_is y l ∙ ap digit e)))
+        let a = early_at (take n queue) n y e in
+        let q : get_or queue a.at 0 ≡ y = sym (get_or-take n queue a.at 0 a.early) ∙ a.is in
+        digit_one (contained (policy_of mem) x y) (sym (mark_is y l) ∙ subst (Marked seen) q (f.still.good.marked a.at a.early)))
+        (λ e.
+        let a = f.still.good.listed y l (mark_is y l ∙ ap digit e) in
+        at_early (take n queue) n y (record { at = a.at; early = a.early; is = get_or-take n queue a.at 0 a.early ∙ a.is }))
 
-    module _ {k i : ℕ} {rows rows' seen' : List ℕ} (m : Moved k queue i rows seen rows' seen') (most : i ≤ n) (end : n ≤ i) where
+    module _ {k i : ℕ} {rows rows' seen' : List ℕ} (m : Moved k (take n queue) i rows seen rows' seen') (most : i ≤ length (take n queue)) (end : length (take n queue) ≤ i) where
       -- all are moved: row k has the bits of all that x is within
       pub moved_all : RowMarked mem x k rows rows'
       moved_all = record {
         size = m.size;
-        is = λ j y l. let e : i ≡ n = omega arith in m.is j y l ∙ rw (e, queued_is y l) refl;
+        is = λ j y l. let e : i ≡ n = omega (arith, part_long) in m.is j y l ∙ rw (e, queued_is y l) refl;
       }
 
       -- and no element is marked
@@ -185,13 +192,13 @@ module _ {mem : List ℕ} {x : ℕ} {seen₀ seen queue : List ℕ} {n : ℕ} (f
         where
           zero_at : (y : ℕ) → get_or seen' y 0 ≡ 0
           zero_at y = elim (dec_lt y 512) [
-            | yes l ↦ split (early queue i y) refl l
+            | yes l ↦ split (early (take n queue) i y) refl l
             | no l ↦ get_or-eq_default seen' 0 {n = y} (omega (arith, m.marks, f.still.good.marks))
           ]
             where
-              split : (t : Bool) → early queue i y ≡ t → y < 512 → get_or seen' y 0 ≡ 0
+              split : (t : Bool) → early (take n queue) i y ≡ t → y < 512 → get_or seen' y 0 ≡ 0
               split true e l = m.cleared y e
               split false e l =
-                  let q : i ≡ n = omega arith in
+                  let q : i ≡ n = omega (arith, part_long) in
                   let none : contained (policy_of mem) x y ≡ false = sym (queued_is y l) ∙ rw q at e in
                   m.kept y e ∙ mark_is y l ∙ ap digit none

@@ -1,12 +1,10 @@
--- What the plain containment call answers, in 01's numbers.
+-- What the plain containment call answers.
 -- Assumes nothing.
-use Rattle.std.specs.Prelude.{Bool, true, false}
-use Rattle.model.specs.Refusal.{Answer, refused, accepted}
-use Rattle.climb.specs.declared.Containment.{Containment}
-use Rattle.climb.specs.declared.Containment.TheVariants.{Within, Outside, Refused}
+use Rattle.std.specs.Prelude.{Bool, Result}
+use Rattle.model.specs.Refusal.{Answer}
+use Rattle.answer.specs.declared.Refusal.{Refusal}
+use Rattle.answer.specs.Answers as answers
 
--- `Within`: x is within y; `Outside`: it is not; `Refused`: the refusal number
-unfoldable pub told : Containment → Answer Bool
-told Within = accepted true
-told Outside = accepted false
-told (Refused n) = refused n
+-- `Ok`: whether x is within y; `Err`: the refusal's number
+abbrev pub told : Result Bool Refusal → Answer Bool
+told r = answers.told (λ b. b) r

@@ -3,7 +3,6 @@
 
 ghost use Rattle.std.specs.Prelude.{◌≡◌, ◌+◌, ◌*◌, ◌≤◌, ◌<◌, length};
 ghost use Rattle.model.specs.Contain.{contained};
-ghost use Rattle.model.specs.Refusal.{accepted};
 ghost use Rattle.model.specs.Calls.{contains};
 ghost use Rattle.table.specs.View.{policy_of, memory};
 ghost use Rattle.table.specs.Facts.{Table};
@@ -11,13 +10,7 @@ ghost use Rattle.climb.specs.Marking.{marks_of};
 ghost use Rattle.climb.specs.Queued.{Container, Listed, Grown, Front, Closed, Climbed, Further, Kept, Blank, BitSet, RowMarked};
 ghost use Rattle.climb.specs.Answers.{told};
 
-// What the plain containment call answers.
-#[derive(Clone, Copy)]
-pub enum Containment {
-    Within,
-    Outside,
-    Refused(u32),
-}
+use answer::Refusal;
 
 // Marks y and appends it to the queue, unless it is marked already. Returns how many are queued then.
 fn offer(y: u32, seen: &mut [u8; 512], queue: &mut [u32; 512], tail: usize) -> usize
@@ -49,13 +42,12 @@ fn offer_containers(
 {
     let mut t = tail;
     let n = table::assignment_count(mem);
-    let mut i = table::first_of(mem, x);
-    while i < n {
+    let first = table::first_of(mem, x);
+    for i in first..n {
         if x < table::child_at(mem, i) {
             return t;
         }
         t = offer(table::container_at(mem, i), seen, queue, t);
-        i += 1;
     }
     t
 }
@@ -118,7 +110,7 @@ fn set_bit(rows: &mut [u8], k: usize, y: u32)
     ensures { BitSet k y rows.old rows.new }
 {
     let place = 64 * k + (y / 8) as usize;
-    rows[place] = rows[place] | (128 >> (y % 8));
+    rows[place] |= 128 >> (y % 8);
 }
 
 // Sets in row k the bits of all that x is within, 64 bytes a row. The lent marks are zero before and after; the queue is lent for the climb alone.
@@ -141,41 +133,35 @@ pub fn mark_row(
     ensures queue_len_after { length queue.new ≡ 512 }
 {
     let n = climb_on(mem, x, seen, queue, 0);
-    let mut i = 0;
-    while i < n {
-        let y = queue[i];
-        set_bit(rows, k, y);
-        seen[y as usize] = 0;
-        i += 1;
+    for y in &queue[..n] {
+        set_bit(rows, k, *y);
+        seen[*y as usize] = 0;
     }
 }
 
 // Whether x is within y: the mark of y in the climb from x.
-fn by_marks(mem: &[u32], x: u32, y: u32) -> Containment
+fn by_marks(mem: &[u32], x: u32, y: u32) -> bool
     requires table { Table mem.now }
     requires x_bound { x < 512 }
     requires y_bound { y < 512 }
-    ensures { told result ≡ accepted (contained (policy_of mem.now) x y) }
+    ensures { result ≡ contained (policy_of mem.now) x y }
 {
     let m = marks(mem, x);
-    if m[y as usize] == 1 {
-        return Containment::Within;
-    }
-    Containment::Outside
+    m[y as usize] == 1
 }
 
 // Plain containment: whether x is within y.
-pub fn contained(mem: &[u32], x: u32, y: u32) -> Containment
+pub fn contained(mem: &[u32], x: u32, y: u32) -> Result<bool, Refusal>
     ensures { told result ≡ contains (memory mem.now) x y }
 {
     if !table::holds(mem) {
-        return Containment::Refused(1);
+        return Err(Refusal::NoTable);
     }
     if !table::are_element_ids(x, y) {
-        return Containment::Refused(2);
+        return Err(Refusal::OutOfRange);
     }
     if !table::are_there(mem, x, y) {
-        return Containment::Refused(4);
+        return Err(Refusal::NotThere);
     }
-    by_marks(mem, x, y)
+    Ok(by_marks(mem, x, y))
 }

@@ -16,8 +16,8 @@ use Rattle.model.specs.Command.{create_class, command_lines, deassign, delete_el
 use Rattle.table.specs.Layout.{kind_word, user_word}
 use Rattle.table.specs.View.{policy_of}
 use Rattle.table.specs.Facts.{Table}
-use Rattle.table.specs.declared.Outcome.{Outcome}
-use Rattle.table.specs.declared.Outcome.TheVariants.{Done}
+use Rattle.std.specs.Prelude.{Result, Ok}
+use Rattle.answer.specs.declared.Refusal.{Refusal}
 use Rattle.table.proofs.Test.{of_table}
 use Rattle.table.proofs.ById.{kind_is, user_is}
 use Rattle.store.specs.Words.{with_kind, with_user}
@@ -56,21 +56,21 @@ user_gone {mem} t {i} p =
 
 module _ {mem idx mem' idx' : List ℕ} where
   -- after an accepted delete element the id is free, whatever the policy was
-  pub id_free_again : {x : ℕ} → Commanded mem idx (delete_element x) Done mem' idx' → is_there (policy_of mem') x ≡ false
+  pub id_free_again : {x : ℕ} → Commanded mem idx (delete_element x) (Ok tt) mem' idx' → is_there (policy_of mem') x ≡ false
   unfolding words_after
   id_free_again {x} k =
       let w = went k ((done_exact k).0 refl) in
       rw w.words (kind_gone (assignments_less_table w.found.table x) (old_element (policy_of mem) w.found.lines))
 
   -- after an accepted end process so is the process's
-  pub process_free_again : {i : ℕ} → Commanded mem idx (end_process i) Done mem' idx' → is_process (policy_of mem') i ≡ false
+  pub process_free_again : {i : ℕ} → Commanded mem idx (end_process i) (Ok tt) mem' idx' → is_process (policy_of mem') i ≡ false
   unfolding words_after
   process_free_again {i} k =
       let w = went k ((done_exact k).0 refl) in
       rw w.words (user_gone w.found.table (old_process (policy_of mem) w.found.lines))
 
   -- after an accepted deassign there is one assignment less, so that there is room for one
-  pub assignment_room_again : {x y : ℕ} → Commanded mem idx (deassign x y) Done mem' idx'
+  pub assignment_room_again : {x y : ℕ} → Commanded mem idx (deassign x y) (Ok tt) mem' idx'
       → (suc (length (policy_of mem').assignments) ≡ length (policy_of mem).assignments) × (full_of_assignments (policy_of mem') ≡ false)
   unfolding after is_assigned
   assignment_room_again {x} {y} k =
@@ -81,7 +81,7 @@ module _ {mem idx mem' idx' : List ℕ} where
       (l, lt-leb 2000 (length (policy_of mem').assignments) (omega (arith, assignments_long mem, w.found.table.few_assignments)))
 
   -- after an accepted delete association, one association less
-  pub association_room_again : {a : Association} → Commanded mem idx (delete_association a) Done mem' idx'
+  pub association_room_again : {a : Association} → Commanded mem idx (delete_association a) (Ok tt) mem' idx'
       → (suc (length (policy_of mem').associations) ≡ length (policy_of mem).associations) × (full_of_associations (policy_of mem') ≡ false)
   unfolding after has_association
   association_room_again {a} k =
@@ -92,7 +92,7 @@ module _ {mem idx mem' idx' : List ℕ} where
       (l, lt-leb 1000 (length (policy_of mem').associations) (omega (arith, associations_long mem, w.found.table.few_associations)))
 
   -- after an accepted delete prohibition, one prohibition less
-  pub prohibition_room_again : {b : Prohibition} → Commanded mem idx (delete_prohibition b) Done mem' idx'
+  pub prohibition_room_again : {b : Prohibition} → Commanded mem idx (delete_prohibition b) (Ok tt) mem' idx'
       → (suc (length (policy_of mem').prohibitions) ≡ length (policy_of mem).prohibitions) × (full_of_prohibitions (policy_of mem') ≡ false)
   unfolding after has_prohibition
   prohibition_room_again {b} k =
@@ -103,8 +103,8 @@ module _ {mem idx mem' idx' : List ℕ} where
       (l, lt-leb 200 (length (policy_of mem').prohibitions) (omega (arith, prohibitions_long mem, w.found.table.few_prohibitions)))
 
   -- so a class can be created with the id of a deleted element, on the words and the index that deleting it left
-  pub class_again : {x : ℕ} → Commanded mem idx (delete_element x) Done mem' idx'
-      → {r : Outcome} {mem'' idx'' : List ℕ} → Commanded mem' idx' (create_class x) r mem'' idx'' → r ≡ Done
+  pub class_again : {x : ℕ} → Commanded mem idx (delete_element x) (Ok tt) mem' idx'
+      → {r : Result (Unit {0}) Refusal} {mem'' idx'' : List ℕ} → Commanded mem' idx' (create_class x) r mem'' idx'' → r ≡ Ok tt
   unfolding command_lines is_element_id
   class_again {x} k l =
       let w = went k ((done_exact k).0 refl) in

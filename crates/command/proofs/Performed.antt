@@ -12,8 +12,9 @@ use Rattle.model.specs.Calls.{kept, lent, changes_containment, command}
 use Rattle.model.proofs.Refusals.{first_refused, none_given, none_accepted}
 use Rattle.table.specs.View.{holds_table, policy_of, memory}
 use Rattle.table.specs.Facts.{Table}
-use Rattle.table.specs.Answers.{told}
-use Rattle.table.specs.declared.Outcome.TheVariants.{Done, Refused}
+use Rattle.std.specs.Prelude.{Ok, Err}
+use Rattle.answer.specs.declared.Refusal.{Refusal}
+use Rattle.answer.specs.Answers.{number_of, told}
 use Rattle.table.proofs.Test.{of_table}
 use Rattle.refusals.specs.Numbers.{refusal_of}
 use Rattle.refusals.proofs.Accepts.{accepts_table, accepts_index}
@@ -42,15 +43,15 @@ accepted_call {mem} {n} {c} f =
 
 module _ (mem idx : List ℕ) (c : Command) where
   -- a line holds: the words and the index stay
-  pub refused_so : {n : ℕ} → First n (command_lines (lent (memory mem) idx) (policy_of mem) c) → Commanded mem idx c (Refused n) mem idx
+  pub refused_so : (s : Refusal) → First (number_of s) (command_lines (lent (memory mem) idx) (policy_of mem) c) → Commanded mem idx c (Err s) mem idx
   unfolding command kept told
-  refused_so f =
+  refused_so s f =
       let e = first_refused (after (policy_of mem) c) f in
       record { answers = sym e; words = rw e refl; index = rw e refl }
 
   -- no line holds: the words are those after the command, and so is the index where the command can change containment
   pub done_so : {mem' idx' : List ℕ} → None (command_lines (lent (memory mem) idx) (policy_of mem) c) → mem' ≡ words_after mem c
-      → idx' ≡ cond (changes_containment c) (index_of (policy_of mem')) idx → Commanded mem idx c Done mem' idx'
+      → idx' ≡ cond (changes_containment c) (index_of (policy_of mem')) idx → Commanded mem idx c (Ok tt) mem' idx'
   unfolding command kept told
   done_so {mem'} f w i =
       let a = accepted_call {mem = mem} f in

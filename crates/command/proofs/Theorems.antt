@@ -17,8 +17,11 @@ use Rattle.model.proofs.Commands.Keeps.{after_sound}
 use Rattle.model.proofs.Commands.Upkeep as upkeep
 use Rattle.table.specs.View.{holds_table, policy_of, memory}
 use Rattle.table.specs.Answers.{told}
-use Rattle.table.specs.declared.Outcome.{Outcome}
-use Rattle.table.specs.declared.Outcome.TheVariants.{Done, Refused}
+use Rattle.std.specs.Prelude.{Result, Ok, Err}
+use Rattle.answer.specs.declared.Refusal.{Refusal}
+use Rattle.answer.specs.Answers as answers
+use Rattle.answer.specs.Answers.{IsRefused}
+use Rattle.answer.proofs.Told.{refused_told, told_refused}
 use Rattle.table.proofs.Outcomes.{one_outcome}
 use Rattle.table.proofs.Test.{of_table}
 use Rattle.command.specs.Commanded.{words_after, Commanded}
@@ -36,21 +39,21 @@ unfolding kept
 kept_by_none a new old f = rw (none_accepted a f)
 
 -- A refused call: its number, and everything as it was.
-record Stayed (mem idx : List ℕ) (n : ℕ) (r : Outcome) (mem' idx' : List ℕ) : Type 0 where
-  outcome : r ≡ Refused n
+record Stayed (mem idx : List ℕ) (n : ℕ) (r : Result (Unit {0}) Refusal) (mem' idx' : List ℕ) : Type 0 where
+  outcome : IsRefused r n
   words : mem' ≡ mem
   index : idx' ≡ idx
 
 -- An accepted call: what it found, and what it left.
-pub record Went (mem idx : List ℕ) (c : Command) (r : Outcome) (mem' idx' : List ℕ) : Type 0 where
-  pub outcome : r ≡ Done
+pub record Went (mem idx : List ℕ) (c : Command) (r : Result (Unit {0}) Refusal) (mem' idx' : List ℕ) : Type 0 where
+  pub outcome : r ≡ Ok tt
   pub found : Accepted mem (length idx) c
   pub words : mem' ≡ words_after mem c
   pub policy : policy_of mem' ≡ after (policy_of mem) c
   pub index : idx' ≡ cond (changes_containment c) (index_of (after (policy_of mem) c)) idx
 
 -- A result of a command: the outcome r, the words mem' and the index idx' afterwards.
-module _ {mem idx : List ℕ} {c : Command} {r : Outcome} {mem' idx' : List ℕ} (k : Commanded mem idx c r mem' idx') where
+module _ {mem idx : List ℕ} {c : Command} {r : Result (Unit {0}) Refusal} {mem' idx' : List ℕ} (k : Commanded mem idx c r mem' idx') where
   -- the answer, by the lines of the call
   by_lines : told r (policy_of mem') ≡ answer (command_lines (lent (memory mem) idx) (policy_of mem) c) (after (policy_of mem) c)
   unfolding command
@@ -58,21 +61,21 @@ module _ {mem idx : List ℕ} {c : Command} {r : Outcome} {mem' idx' : List ℕ}
 
   -- a line holds: it was refused
   stayed : {n : ℕ} → First n (command_lines (lent (memory mem) idx) (policy_of mem) c) → Stayed mem idx n r mem' idx'
-  unfolding command told
+  unfolding command answers.told
   stayed {n} f = record {
-    outcome = one_outcome r (Refused n) (policy_of mem') (policy_of mem') (by_lines ∙ first_refused (after (policy_of mem) c) f);
+    outcome = refused_told (λ _. policy_of mem') r (by_lines ∙ first_refused (after (policy_of mem) c) f);
     words = k.words ∙ kept_by_line (after (policy_of mem) c) (words_after mem c) mem f;
     index = k.index ∙ kept_by_line (after (policy_of mem) c) (cond (changes_containment c) (index_of (after (policy_of mem) c)) idx) idx f;
   }
 
   -- no line holds: it was done
   pub went : None (command_lines (lent (memory mem) idx) (policy_of mem) c) → Went mem idx c r mem' idx'
-  unfolding command told
+  unfolding command answers.told
   went f =
       let a = accepted_call {mem = mem} f in
       let w = k.words ∙ kept_by_none (after (policy_of mem) c) (words_after mem c) mem f in
       record {
-        outcome = one_outcome r Done (policy_of mem') (after (policy_of mem) c) (by_lines ∙ none_accepted (after (policy_of mem) c) f);
+        outcome = one_outcome r (Ok tt) (policy_of mem') (after (policy_of mem) c) (by_lines ∙ none_accepted (after (policy_of mem) c) f);
         found = a;
         words = w;
         policy = ap policy_of w ∙ (holds_after a.table c a.lines).policy;
@@ -80,17 +83,17 @@ module _ {mem idx : List ℕ} {c : Command} {r : Outcome} {mem' idx' : List ℕ}
       }
 
   -- "each is given exactly when its line holds and none before it does"
-  pub refusals_exact : (n : ℕ) → (r ≡ Refused n) ↔ First n (command_lines (lent (memory mem) idx) (policy_of mem) c)
-  unfolding told
+  pub refusals_exact : (n : ℕ) → IsRefused r n ↔ First n (command_lines (lent (memory mem) idx) (policy_of mem) c)
+  unfolding answers.told
   refusals_exact n = (
     λ h. refused_first (after (policy_of mem) c) (command_lines (lent (memory mem) idx) (policy_of mem) c)
-        (sym by_lines ∙ ap (λ s. told s (policy_of mem')) h),
+        (sym by_lines ∙ told_refused (λ _. policy_of mem') h),
     λ f. (stayed f).outcome,
   )
 
   -- and the command is done exactly where no line holds
-  pub done_exact : (r ≡ Done) ↔ None (command_lines (lent (memory mem) idx) (policy_of mem) c)
-  unfolding told
+  pub done_exact : (r ≡ Ok tt) ↔ None (command_lines (lent (memory mem) idx) (policy_of mem) c)
+  unfolding answers.told
   done_exact = (
     λ h. (accepted_none (after (policy_of mem) c) (command_lines (lent (memory mem) idx) (policy_of mem) c)
         (sym by_lines ∙ ap (λ s. told s (policy_of mem')) h)).0,
@@ -98,8 +101,8 @@ module _ {mem idx : List ℕ} {c : Command} {r : Outcome} {mem' idx' : List ℕ}
   )
 
   -- "A refused call .. writes nothing."
-  pub refused_leaves_all : {n : ℕ} → r ≡ Refused n → (mem' ≡ mem) × (idx' ≡ idx)
-  refused_leaves_all {n} h = let s = stayed ((refusals_exact n).0 h) in (s.words, s.index)
+  pub refused_leaves_all : {x : Refusal} → r ≡ Err x → (mem' ≡ mem) × (idx' ≡ idx)
+  refused_leaves_all {x} h = let s = stayed ((refusals_exact (answers.number_of x)).0 (record { why = x; is = h; its_number = refl })) in (s.words, s.index)
 
   -- the policy afterwards is the one that the whole call leaves, refused or not
   pub policy_after : policy_of mem' ≡ (command (memory mem) idx c).table
@@ -140,7 +143,7 @@ module _ {mem idx : List ℕ} {c : Command} {r : Outcome} {mem' idx' : List ℕ}
   index_kept e = k.index ∙ upkeep.index_kept (memory mem) idx c e ∙ ap index_of (sym policy_after)
 
   -- a command that can change containment, once done, leaves the table's index whatever bytes it was lent
-  pub index_repaired : r ≡ Done → changes_containment c ≡ true → idx' ≡ index_of (policy_of mem')
+  pub index_repaired : r ≡ Ok tt → changes_containment c ≡ true → idx' ≡ index_of (policy_of mem')
   index_repaired h e =
       let w = went (done_exact.0 h) in
       w.index ∙ ap (λ t. cond t (index_of (after (policy_of mem) c)) idx) e ∙ ap index_of (sym w.policy)
@@ -158,7 +161,7 @@ module _ {mem idx : List ℕ} {c : Command} {r : Outcome} {mem' idx' : List ℕ}
       go (clear f) = let w = went f in ap length w.index ∙ as_long (changes_containment c) w.found.size
 
 -- two calls on the same words, with indexes of the same length: the same outcome and the same words afterwards, whatever the bytes
-pub index_blind : {mem i j : List ℕ} {c : Command} {r s : Outcome} {mem' i' mem'' j' : List ℕ} → length i ≡ length j
+pub index_blind : {mem i j : List ℕ} {c : Command} {r s : Result (Unit {0}) Refusal} {mem' i' mem'' j' : List ℕ} → length i ≡ length j
     → Commanded mem i c r mem' i' → Commanded mem j c s mem'' j' → (r ≡ s) × (mem' ≡ mem'')
 index_blind {mem} {i} {j} {c} {r} {s} {mem'} {i'} {mem''} e k l =
     let a = (upkeep.index_blind (memory mem) i j c e).0 in (
@@ -167,7 +170,7 @@ index_blind {mem} {i} {j} {c} {r} {s} {mem'} {i'} {mem''} e k l =
     )
 
 -- the contract allows one result: one outcome, every word, every byte
-pub unique : {mem idx : List ℕ} {c : Command} {r s : Outcome} {mem' idx' mem'' idx'' : List ℕ}
+pub unique : {mem idx : List ℕ} {c : Command} {r s : Result (Unit {0}) Refusal} {mem' idx' mem'' idx'' : List ℕ}
     → Commanded mem idx c r mem' idx' → Commanded mem idx c s mem'' idx'' → (r ≡ s) × (mem' ≡ mem'') × (idx' ≡ idx'')
 unique {r = r} {s = s} {mem' = mem'} {mem'' = mem''} k l =
     (one_outcome r s (policy_of mem') (policy_of mem'') (k.answers ∙ sym l.answers), k.words ∙ sym l.words, k.index ∙ sym l.index)

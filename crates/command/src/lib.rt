@@ -7,20 +7,17 @@ ghost use Rattle.model.specs.Command.{create_class, create_element, assign, deas
 ghost use Rattle.store.specs.ProhibitionWords.{prohibition};
 ghost use Rattle.command.specs.Commanded.{Commanded};
 
+use answer::Refusal;
 use kinds::CLASS;
-use table::Outcome;
 
 // Creates a policy class.
-pub fn create_class(mem: &mut [u32], idx: &mut [u8], id: u32) -> Outcome
+pub fn create_class(mem: &mut [u32], idx: &mut [u8], id: u32) -> Result<(), Refusal>
     ensures { Commanded mem.old idx.old (create_class id) result mem.new idx.new }
 {
-    let number = refusals::create_class(mem, idx.len(), id);
-    if 0 < number {
-        return Outcome::Refused(number);
-    }
+    refusals::create_class(mem, idx.len(), id)?;
     store::set_kind(mem, id, CLASS);
     index::fill(mem, idx);
-    Outcome::Done
+    Ok(())
 }
 
 // Creates an element with its first assignment.
@@ -30,57 +27,45 @@ pub fn create_element(
     id: u32,
     kind: u32,
     container: u32,
-) -> Outcome
+) -> Result<(), Refusal>
     ensures { Commanded mem.old idx.old (create_element id kind container) result mem.new idx.new }
 {
-    let number = refusals::create_element(mem, idx.len(), id, kind, container);
-    if 0 < number {
-        return Outcome::Refused(number);
-    }
+    refusals::create_element(mem, idx.len(), id, kind, container)?;
     store::set_kind(mem, id, kind);
-    store::add_assignment(mem, id, container);
+    store::add_assignment(mem, id, container)?;
     index::fill(mem, idx);
-    Outcome::Done
+    Ok(())
 }
 
 // Assigns the child to the container.
-pub fn assign(mem: &mut [u32], idx: &mut [u8], child: u32, container: u32) -> Outcome
+pub fn assign(mem: &mut [u32], idx: &mut [u8], child: u32, container: u32) -> Result<(), Refusal>
     ensures { Commanded mem.old idx.old (assign child container) result mem.new idx.new }
 {
-    let number = refusals::assign(mem, idx.len(), child, container);
-    if 0 < number {
-        return Outcome::Refused(number);
-    }
-    store::add_assignment(mem, child, container);
+    refusals::assign(mem, idx.len(), child, container)?;
+    store::add_assignment(mem, child, container)?;
     index::fill(mem, idx);
-    Outcome::Done
+    Ok(())
 }
 
 // Takes the child's assignment to the container away.
-pub fn deassign(mem: &mut [u32], idx: &mut [u8], child: u32, container: u32) -> Outcome
+pub fn deassign(mem: &mut [u32], idx: &mut [u8], child: u32, container: u32) -> Result<(), Refusal>
     ensures { Commanded mem.old idx.old (deassign child container) result mem.new idx.new }
 {
-    let number = refusals::deassign(mem, idx.len(), child, container);
-    if 0 < number {
-        return Outcome::Refused(number);
-    }
+    refusals::deassign(mem, idx.len(), child, container)?;
     store::take_assignment(mem, child, container);
     index::fill(mem, idx);
-    Outcome::Done
+    Ok(())
 }
 
 // Deletes an element with its own assignments.
-pub fn delete_element(mem: &mut [u32], idx: &mut [u8], id: u32) -> Outcome
+pub fn delete_element(mem: &mut [u32], idx: &mut [u8], id: u32) -> Result<(), Refusal>
     ensures { Commanded mem.old idx.old (delete_element id) result mem.new idx.new }
 {
-    let number = refusals::delete_element(mem, idx.len(), id);
-    if 0 < number {
-        return Outcome::Refused(number);
-    }
+    refusals::delete_element(mem, idx.len(), id)?;
     store::take_assignments_of(mem, id);
     store::set_kind(mem, id, 0);
     index::fill(mem, idx);
-    Outcome::Done
+    Ok(())
 }
 
 // Creates an association.
@@ -90,15 +75,12 @@ pub fn create_association(
     attribute: u32,
     target: u32,
     rights: u32,
-) -> Outcome
+) -> Result<(), Refusal>
     ensures { Commanded mem.old idx.old (create_association (record { attribute = attribute; target = target; rights = rights })) result mem.new idx.new }
 {
-    let number = refusals::create_association(mem, idx.len(), attribute, target, rights);
-    if 0 < number {
-        return Outcome::Refused(number);
-    }
-    store::add_association(mem, attribute, target, rights);
-    Outcome::Done
+    refusals::create_association(mem, idx.len(), attribute, target, rights)?;
+    store::add_association(mem, attribute, target, rights)?;
+    Ok(())
 }
 
 // Deletes an association, by its exact triple.
@@ -108,15 +90,12 @@ pub fn delete_association(
     attribute: u32,
     target: u32,
     rights: u32,
-) -> Outcome
+) -> Result<(), Refusal>
     ensures { Commanded mem.old idx.old (delete_association (record { attribute = attribute; target = target; rights = rights })) result mem.new idx.new }
 {
-    let number = refusals::delete_association(mem, idx.len(), attribute, target, rights);
-    if 0 < number {
-        return Outcome::Refused(number);
-    }
+    refusals::delete_association(mem, idx.len(), attribute, target, rights)?;
     store::take_association(mem, attribute, target, rights);
-    Outcome::Done
+    Ok(())
 }
 
 // Creates a prohibition. Its lists may be of any length.
@@ -129,10 +108,10 @@ pub fn create_prohibition(
     rights: u32,
     inclusion: &[u32],
     exclusion: &[u32],
-) -> Outcome
+) -> Result<(), Refusal>
     ensures { Commanded mem.old idx.old (create_prohibition (prohibition sort subject form rights inclusion.now exclusion.now)) result mem.new idx.new }
 {
-    let number = refusals::create_prohibition(
+    refusals::create_prohibition(
         mem,
         idx.len(),
         sort,
@@ -141,12 +120,9 @@ pub fn create_prohibition(
         rights,
         inclusion,
         exclusion,
-    );
-    if 0 < number {
-        return Outcome::Refused(number);
-    }
-    store::add_prohibition(mem, sort, subject, form, rights, inclusion, exclusion);
-    Outcome::Done
+    )?;
+    store::add_prohibition(mem, sort, subject, form, rights, inclusion, exclusion)?;
+    Ok(())
 }
 
 // Deletes a prohibition, by its exact fields.
@@ -159,10 +135,10 @@ pub fn delete_prohibition(
     rights: u32,
     inclusion: &[u32],
     exclusion: &[u32],
-) -> Outcome
+) -> Result<(), Refusal>
     ensures { Commanded mem.old idx.old (delete_prohibition (prohibition sort subject form rights inclusion.now exclusion.now)) result mem.new idx.new }
 {
-    let number = refusals::delete_prohibition(
+    refusals::delete_prohibition(
         mem,
         idx.len(),
         sort,
@@ -171,34 +147,25 @@ pub fn delete_prohibition(
         rights,
         inclusion,
         exclusion,
-    );
-    if 0 < number {
-        return Outcome::Refused(number);
-    }
+    )?;
     store::take_prohibition(mem, sort, subject, form, rights, inclusion, exclusion);
-    Outcome::Done
+    Ok(())
 }
 
 // Starts a process of a user.
-pub fn start_process(mem: &mut [u32], idx: &mut [u8], id: u32, user: u32) -> Outcome
+pub fn start_process(mem: &mut [u32], idx: &mut [u8], id: u32, user: u32) -> Result<(), Refusal>
     ensures { Commanded mem.old idx.old (start_process id user) result mem.new idx.new }
 {
-    let number = refusals::start_process(mem, idx.len(), id, user);
-    if 0 < number {
-        return Outcome::Refused(number);
-    }
+    refusals::start_process(mem, idx.len(), id, user)?;
     store::set_user(mem, id, user);
-    Outcome::Done
+    Ok(())
 }
 
 // Ends a process.
-pub fn end_process(mem: &mut [u32], idx: &mut [u8], id: u32) -> Outcome
+pub fn end_process(mem: &mut [u32], idx: &mut [u8], id: u32) -> Result<(), Refusal>
     ensures { Commanded mem.old idx.old (end_process id) result mem.new idx.new }
 {
-    let number = refusals::end_process(mem, idx.len(), id);
-    if 0 < number {
-        return Outcome::Refused(number);
-    }
+    refusals::end_process(mem, idx.len(), id)?;
     store::set_user(mem, id, 0);
-    Outcome::Done
+    Ok(())
 }

@@ -9,7 +9,6 @@ use borrow.Author.Tests.{not-true, not-false}
 use lib.ListN.{get_or}
 use Rattle.model.specs.Lists.{all_of}
 use Rattle.model.specs.Policy.{Policy, user_of}
-use Rattle.model.specs.Refusal.{accepted}
 use Rattle.model.specs.Request.{alternatives_of, permitted, satisfied, verdict}
 use Rattle.request.specs.declared.Request.{Request}
 use Rattle.request.specs.Sets.{right_sets, capabilities}
@@ -20,7 +19,7 @@ use Rattle.request.proofs.Alternatives.{first_sets, second_sets, set_at, asked_a
 use Rattle.rule.specs.declared.Asking.{Asking}
 use Rattle.held.specs.Lacking.{permits}
 use Rattle.decide.specs.declared.Decision.TheVariants.{Grant, Deny}
-use Rattle.decide.specs.Answers.{told}
+use Rattle.decide.specs.Answers.{verdict_of}
 use Rattle.decide.specs.Asks.{asking_of, permits_over, permits_all, satisfies}
 
 -- The alternative, argument by argument.
@@ -70,9 +69,9 @@ module _ (W : ℕ → ℕ → Bool) {mem : List ℕ} (p : Policy) {q : Request} 
   first_satisfied = e ∙ ap₂ (λ v l. satisfies W p q v (get_or l 0 [])) u c ∙ ap (satisfies W p q (user_of p q.process)) (first_sets q.operation) ∙ satisfies_says W p q 0
 
   -- the first alternative is satisfied
-  pub told_first : r ≡ true → told (Grant 1) ≡ accepted (verdict W p (request_of q))
-  unfolding told
-  told_first h = ap accepted (sym (verdict_first W p (request_of q) (operation_some k) k.operation (sym first_satisfied ∙ h)))
+  pub told_first : r ≡ true → verdict_of (Grant 1) ≡ verdict W p (request_of q)
+  unfolding verdict_of
+  told_first h = sym (verdict_first W p (request_of q) (operation_some k) k.operation (sym first_satisfied ∙ h))
 
   module _ (h : r ≡ false) where
     -- the first alternative is not satisfied
@@ -87,9 +86,9 @@ module _ (W : ℕ → ℕ → Bool) {mem : List ℕ} (p : Policy) {q : Request} 
         ∙ set_at (get_or (alternatives_of (request_of q)) 1 []) 0 (omega arith)
 
     -- there is no second
-    pub told_only_first : get_or (get_or alternatives 1 []) 0 0 ≡ 0 → told Deny ≡ accepted (verdict W p (request_of q))
-    unfolding told
-    told_only_first z = ap accepted (sym (verdict_none_one W p (request_of q) first_unsatisfied (sym second_read ∙ z)))
+    pub told_only_first : get_or (get_or alternatives 1 []) 0 0 ≡ 0 → verdict_of Deny ≡ verdict W p (request_of q)
+    unfolding verdict_of
+    told_only_first z = sym (verdict_none_one W p (request_of q) first_unsatisfied (sym second_read ∙ z))
 
     module _ (d : get_or (get_or alternatives 1 []) 0 0 ≡ 0 → ⊥) {s : Bool} (f : s ≡ satisfies W p q user (get_or alternatives 1 [])) where
       -- what was told of the second alternative's sets
@@ -98,11 +97,11 @@ module _ (W : ℕ → ℕ → Bool) {mem : List ℕ} (p : Policy) {q : Request} 
           f ∙ ap₂ (λ v l. satisfies W p q v (get_or l 1 [])) u c ∙ ap (satisfies W p q (user_of p q.process)) (second_sets q.operation) ∙ satisfies_says W p q 1
 
       -- the second is satisfied
-      pub told_second : s ≡ true → told (Grant 2) ≡ accepted (verdict W p (request_of q))
-      unfolding told
-      told_second i = ap accepted (sym (verdict_second W p (request_of q) first_unsatisfied (λ z. d (second_read ∙ z)) (sym second_satisfied ∙ i)))
+      pub told_second : s ≡ true → verdict_of (Grant 2) ≡ verdict W p (request_of q)
+      unfolding verdict_of
+      told_second i = sym (verdict_second W p (request_of q) first_unsatisfied (λ z. d (second_read ∙ z)) (sym second_satisfied ∙ i))
 
       -- it is not either
-      pub told_neither : s ≡ false → told Deny ≡ accepted (verdict W p (request_of q))
-      unfolding told
-      told_neither i = ap accepted (sym (verdict_none_two W p (request_of q) first_unsatisfied (λ z. d (second_read ∙ z)) (sym second_satisfied ∙ i)))
+      pub told_neither : s ≡ false → verdict_of Deny ≡ verdict W p (request_of q)
+      unfolding verdict_of
+      told_neither i = sym (verdict_none_two W p (request_of q) first_unsatisfied (λ z. d (second_read ∙ z)) (sym second_satisfied ∙ i))

@@ -111,16 +111,6 @@ four_climbs {mem} {q} {user} {rows₀} {rows₁} {rows₂} {rows₃} {rows₄} u
     of_third : (y : ℕ) → y < 512 → bit_at rows₄ 3 y ≡ contained (policy_of mem) q.third y
     of_third y l = row_set 3 d y l (blank₃ y l)
 
--- What is asked over an argument, with the rows of an index and with those of climbs.
-module _ (q : Request) (user e k : ℕ) (indexed : Bool) where
-  -- the rows of an index are numbered by the elements
-  pub asking_by_index : indexed ≡ true → record { process = q.process; user = user; element = e; right = 0; by = user; over = e } ≡ asking_of q user indexed e k 0
-  asking_by_index h = rw h
-
-  -- the rows of climbs are numbered by position, the user's first
-  pub asking_by_climb : indexed ≡ false → record { process = q.process; user = user; element = e; right = 0; by = 0; over = k } ≡ asking_of q user indexed e k 0
-  asking_by_climb h = rw h
-
 -- the user of the process of a request that is not refused has a row
 pub user_known : {mem : List ℕ} {q : Request} {u : ℕ} → Accepted mem q → u ≡ user_of (policy_of mem) q.process → u < 512
 user_known k e = omega (arith, k.user)

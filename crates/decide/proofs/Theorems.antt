@@ -20,39 +20,44 @@ use Rattle.model.proofs.Refusals.{first_refused, none_accepted, refused_first, a
 use Rattle.model.proofs.Decisions.Decision.{grant_says, grant_when, deny_says, deny_when, unclassed_denied as no_class_denied}
 use Rattle.model.proofs.Decisions.Plain.{plain_grant_says, plain_grant_when, plain_deny_says, plain_deny_when}
 use Rattle.model.proofs.Decisions.ByIndex.{indexed_as_plain as answers-alike}
+use Rattle.std.specs.Prelude.{Result, Ok}
+use Rattle.answer.specs.declared.Refusal.{Refusal}
+use Rattle.answer.specs.Answers.{IsRefused}
+use Rattle.answer.specs.Answers as answers
+use Rattle.answer.proofs.Told.{refused_told, told_refused}
 use Rattle.table.specs.View.{holds_table, policy_of, memory}
 use Rattle.request.specs.declared.Request.{Request}
 use Rattle.request.specs.Asks.{request_of}
 use Rattle.decide.specs.declared.Decision.{Decision}
-use Rattle.decide.specs.declared.Decision.TheVariants.{Grant, Deny, Refused}
-use Rattle.decide.specs.Answers.{told}
+use Rattle.decide.specs.declared.Decision.TheVariants.{Grant, Deny}
+use Rattle.decide.specs.Answers.{verdict_of, told}
 use Rattle.decide.specs.Results.{ByBits}
 use Rattle.decide.proofs.Answered.{one_decision}
 
 -- What a result that is told as an answer by lines is, by the verdict.
-module _ (W : ℕ → ℕ → Bool) (lines : List Line) (p : Policy) (q : Asks) {r : Decision} (e : told r ≡ answer lines (verdict W p q)) where
+module _ (W : ℕ → ℕ → Bool) (lines : List Line) (p : Policy) (q : Asks) {r : Result Decision Refusal} (e : told r ≡ answer lines (verdict W p q)) where
   -- a grant with k: no line holds, and the verdict is that grant
-  granted : (k : ℕ) → (r ≡ Grant k) ↔ (None lines × (verdict W p q ≡ grant k))
-  unfolding told
+  granted : (k : ℕ) → (r ≡ Ok (Grant k)) ↔ (None lines × (verdict W p q ≡ grant k))
+  unfolding answers.told verdict_of
   granted k = (
     λ h. let a = accepted_none (verdict W p q) lines (sym e ∙ ap told h) in (a.0, sym a.1),
-    λ h. one_decision r (Grant k) (e ∙ none_accepted (verdict W p q) h.0 ∙ ap accepted h.1),
+    λ h. one_decision r (Ok (Grant k)) (e ∙ none_accepted (verdict W p q) h.0 ∙ ap accepted h.1),
   )
 
   -- a deny: no line holds, and the verdict is deny
-  denied : (r ≡ Deny) ↔ (None lines × (verdict W p q ≡ deny))
-  unfolding told
+  denied : (r ≡ Ok Deny) ↔ (None lines × (verdict W p q ≡ deny))
+  unfolding answers.told verdict_of
   denied = (
     λ h. let a = accepted_none (verdict W p q) lines (sym e ∙ ap told h) in (a.0, sym a.1),
-    λ h. one_decision r Deny (e ∙ none_accepted (verdict W p q) h.0 ∙ ap accepted h.1),
+    λ h. one_decision r (Ok Deny) (e ∙ none_accepted (verdict W p q) h.0 ∙ ap accepted h.1),
   )
 
   -- a refusal with n: line n is the first that holds
-  refuses : (n : ℕ) → (r ≡ Refused n) ↔ First n lines
-  unfolding told
+  refuses : (n : ℕ) → IsRefused r n ↔ First n lines
+  unfolding answers.told verdict_of
   refuses n = (
-    λ h. refused_first (verdict W p q) lines (sym e ∙ ap told h),
-    λ h. one_decision r (Refused n) (e ∙ first_refused (verdict W p q) h),
+    λ h. refused_first (verdict W p q) lines (sym e ∙ told_refused verdict_of h),
+    λ h. refused_told verdict_of r (e ∙ first_refused (verdict W p q) h),
   )
 
 -- what holds exactly if one thing and another do holds exactly if the one does and what says the same as the other
@@ -60,11 +65,11 @@ carried : {A B C D : Type 0} → A ↔ (B × C) → (C → D) → (D → C) → 
 carried e to back = (λ a. let b = e.0 a in (b.0, to b.1), λ d. e.1 (d.0, back d.1))
 
 -- a call's contract allows one result: two results that are told the same are the same
-pub unique : (r s : Decision) → told r ≡ told s → r ≡ s
+pub unique : (r s : Result Decision Refusal) → told r ≡ told s → r ≡ s
 unique = one_decision
 
 -- The plain decision, on any memory and any request.
-module _ (mem : List ℕ) (q : Request) (r : Decision) (e : told r ≡ decide (memory mem) (request_of q)) where
+module _ (mem : List ℕ) (q : Request) (r : Result Decision Refusal) (e : told r ≡ decide (memory mem) (request_of q)) where
   -- the lines of the call decide, then the verdict
   by_lines : told r ≡ answer (request_lines (holds_table mem) (policy_of mem) (request_of q)) (verdict (contained (policy_of mem)) (policy_of mem) (request_of q))
   unfolding decide decision
@@ -72,14 +77,14 @@ module _ (mem : List ℕ) (q : Request) (r : Decision) (e : told r ≡ decide (m
 
   -- the result is a grant with k exactly if no line refuses the request, the first of which is that there is no table, and k is the lowest
   -- alternative of which each right of each argument is held and not restricted, over chains of assignments
-  pub grant_exact : (k : ℕ) → (r ≡ Grant k)
+  pub grant_exact : (k : ℕ) → (r ≡ Ok (Grant k))
       ↔ (None (request_lines (holds_table mem) (policy_of mem) (request_of q)) × Lowest (Within (policy_of mem).assignments) (policy_of mem) (request_of q) k)
   grant_exact k =
       carried (granted (contained (policy_of mem)) _ (policy_of mem) (request_of q) by_lines k)
       (plain_grant_says (policy_of mem) (request_of q)) (plain_grant_when (policy_of mem) (request_of q))
 
   -- it is a deny exactly if no line refuses the request and there is no such alternative
-  pub deny_exact : (r ≡ Deny)
+  pub deny_exact : (r ≡ Ok Deny)
       ↔ (None (request_lines (holds_table mem) (policy_of mem) (request_of q))
       × ((a : Alternative) → In a (alternatives_of (request_of q)) → Satisfied (Within (policy_of mem).assignments) (policy_of mem) (request_of q) a → ⊥))
   deny_exact =
@@ -87,12 +92,12 @@ module _ (mem : List ℕ) (q : Request) (r : Decision) (e : told r ≡ decide (m
       (plain_deny_says (policy_of mem) (request_of q)) (plain_deny_when (policy_of mem) (request_of q))
 
   -- it is a refusal with n exactly if n's line holds and none before it does
-  pub refusal_exact : (n : ℕ) → (r ≡ Refused n) ↔ First n (request_lines (holds_table mem) (policy_of mem) (request_of q))
+  pub refusal_exact : (n : ℕ) → IsRefused r n ↔ First n (request_lines (holds_table mem) (policy_of mem) (request_of q))
   refusal_exact = refuses (contained (policy_of mem)) _ (policy_of mem) (request_of q) by_lines
 
   -- "A table with an element in no class .. denies that element": a request that no line refuses and that uses an argument in no class is denied
   pub unclassed_denied : None (request_lines (holds_table mem) (policy_of mem) (request_of q)) → {x : ℕ} → In x (take (length (kinds_of (request_of q))) (arguments_of (request_of q)))
-      → ((c : ℕ) → ClassOf (Within (policy_of mem).assignments) (policy_of mem) x c → ⊥) → r ≡ Deny
+      → ((c : ℕ) → ClassOf (Within (policy_of mem).assignments) (policy_of mem) x c → ⊥) → r ≡ Ok Deny
   unclassed_denied n i h =
       (denied (contained (policy_of mem)) _ (policy_of mem) (request_of q) by_lines).1 (
         n,
@@ -101,7 +106,7 @@ module _ (mem : List ℕ) (q : Request) (r : Decision) (e : told r ≡ decide (m
       )
 
 -- The indexed decision, on any memory, any bytes and any request.
-module _ (mem idx : List ℕ) (q : Request) (r : Decision) (e : told r ≡ decide_indexed (memory mem) idx (request_of q)) where
+module _ (mem idx : List ℕ) (q : Request) (r : Result Decision Refusal) (e : told r ≡ decide_indexed (memory mem) idx (request_of q)) where
   -- the lines of the call decide, then the verdict
   by_indexed_lines : told r ≡ answer (indexed_lines (lent (memory mem) idx) (policy_of mem) (request_of q)) (verdict (bit_at idx) (policy_of mem) (request_of q))
   unfolding decide_indexed indexed_decision
@@ -124,7 +129,7 @@ module _ (mem idx : List ℕ) (q : Request) (r : Decision) (e : told r ≡ decid
       subst (λ n. ByBits idx (indexed_lines (record { holds_table = holds_table mem; index = n }) (policy_of mem) (request_of q)) (policy_of mem) (request_of q) r) l indexed_by_bits
 
 -- on a table whose policy is sound, with the policy's index, the indexed decision has the plain decision's result, for every request
-pub indexed_as_plain : (mem idx : List ℕ) (q : Request) (r s : Decision) → holds_table mem ≡ true → Sound (policy_of mem) → idx ≡ index_of (policy_of mem)
+pub indexed_as_plain : (mem idx : List ℕ) (q : Request) (r s : Result Decision Refusal) → holds_table mem ≡ true → Sound (policy_of mem) → idx ≡ index_of (policy_of mem)
     → told r ≡ decide (memory mem) (request_of q) → told s ≡ decide_indexed (memory mem) idx (request_of q) → r ≡ s
 indexed_as_plain mem idx q r s t sound i e f =
     let alike : decide_indexed (memory mem) idx (request_of q) ≡ decide (memory mem) (request_of q) = rw (t, i) (answers-alike (policy_of mem) sound (request_of q)) in

@@ -4,7 +4,6 @@
 
 ghost use Rattle.std.specs.Prelude.{◌≡◌, not, ◌||◌, ◌<◌, length};
 ghost use Rattle.model.specs.Policy.{has_right, user_of};
-ghost use Rattle.model.specs.Refusal.{accepted};
 ghost use Rattle.model.specs.Request.{verdict};
 ghost use Rattle.model.specs.Contain.{contained};
 ghost use Rattle.model.specs.Index.{bit_at};
@@ -14,41 +13,33 @@ ghost use Rattle.table.specs.Facts.{Table};
 ghost use Rattle.request.specs.Sets.{capabilities};
 ghost use Rattle.request.specs.Asks.{request_of, Accepted};
 ghost use Rattle.held.specs.Lacking.{sight, Rows};
-ghost use Rattle.decide.specs.Answers.{told};
+ghost use Rattle.decide.specs.Answers.{verdict_of, told};
 ghost use Rattle.decide.specs.Asks.{asking_of, with_right, AllRows, Climbs, permits_over, permits_all, satisfies};
 
+use answer::Refusal;
+use held::Lacking;
 use request::Request;
-use rule::Asking;
+pub use rule::Climbed;
+use rule::{Asking, Indexed, Sight};
 
-// What a decision answers.
+// What a request that is not refused is answered: granted, by the alternative with this number, or denied.
 #[derive(Clone, Copy)]
 pub enum Decision {
     Grant(u32),
     Deny,
-    Refused(u32),
 }
 
 // What is asked over element e, the argument at position k.
-pub fn asking(q: Request, user: u32, indexed: bool, e: u32, k: u32) -> Asking
-    ensures { result ≡ asking_of q user indexed e k 0 }
+pub fn asking<S: Sight>(q: Request, user: u32, rows: &S, e: u32, k: u32) -> Asking
+    ensures { result ≡ asking_of q user (S.indexed rows.now) e k 0 }
 {
-    if indexed {
-        return Asking {
-            process: q.process,
-            user: user,
-            element: e,
-            right: 0,
-            by: user,
-            over: e,
-        };
-    }
     Asking {
         process: q.process,
-        user: user,
+        user,
         element: e,
         right: 0,
-        by: 0,
-        over: k,
+        by: rows.row_of_user(user),
+        over: rows.row_of_argument(e, k),
     }
 }
 
@@ -67,28 +58,29 @@ pub fn with_right(q: Asking, r: u32) -> Asking
 }
 
 // Whether right r, if it is in the set, is held over the element and not restricted.
-fn is_allowed(mem: &[u32], rows: &[u8], indexed: bool, q: Asking, rights: u32, r: u32) -> bool
+fn is_allowed<S: Lacking>(mem: &[u32], rows: &S, q: Asking, rights: u32, r: u32) -> bool
     requires table { Table mem.now }
-    requires rows { Rows mem.now rows.now indexed q }
+    requires rows { Rows mem.now (S.rows rows.now) (S.indexed rows.now) q }
     requires r_bound { r < 32 }
-    ensures { result ≡ (not (has_right rights r) || permits_over (sight mem.now rows.now indexed) (policy_of mem.now) q r) }
+    ensures { result ≡ (not (has_right rights r) || permits_over (sight mem.now (S.rows rows.now) (S.indexed rows.now)) (policy_of mem.now) q r) }
 {
     if !rule::has_right(rights, r) {
         return true;
     }
-    held::is_permitted(mem, rows, indexed, with_right(q, r))
+    held::is_permitted(mem, rows, with_right(q, r))
 }
 
 // Whether each right of the set is held over the element and not restricted. The rights are asked from 0 up until none is left: most sets have one.
-fn are_allowed(mem: &[u32], rows: &[u8], indexed: bool, q: Asking, rights: u32) -> bool
+fn are_allowed<S: Lacking>(mem: &[u32], rows: &S, q: Asking, rights: u32) -> bool
     requires table { Table mem.now }
-    requires rows { Rows mem.now rows.now indexed q }
-    ensures { result ≡ permits_all (sight mem.now rows.now indexed) (policy_of mem.now) q rights }
+    requires rows { Rows mem.now (S.rows rows.now) (S.indexed rows.now) q }
+    ensures { result ≡ permits_all (sight mem.now (S.rows rows.now) (S.indexed rows.now)) (policy_of mem.now) q rights }
 {
     let mut left = rights;
     let mut r = 0;
+    // A while: the set is halved from right to right, until none is left.
     while 0 < left {
-        if !is_allowed(mem, rows, indexed, q, rights, r) {
+        if !is_allowed(mem, rows, q, rights, r) {
             return false;
         }
         left = left / 2;
@@ -98,69 +90,43 @@ fn are_allowed(mem: &[u32], rows: &[u8], indexed: bool, q: Asking, rights: u32) 
 }
 
 // Whether an alternative is satisfied: for each argument each right in that argument's set.
-fn is_satisfied(
-    mem: &[u32],
-    rows: &[u8],
-    indexed: bool,
-    q: Request,
-    user: u32,
-    sets: [u32; 3],
-) -> bool
+fn is_satisfied<S: Lacking>(mem: &[u32], rows: &S, q: Request, user: u32, sets: [u32; 3]) -> bool
     requires table { Table mem.now }
-    requires all_rows { AllRows mem.now rows.now indexed q user }
-    ensures { result ≡ satisfies (sight mem.now rows.now indexed) (policy_of mem.now) q user sets }
+    requires all_rows { AllRows mem.now (S.rows rows.now) (S.indexed rows.now) q user }
+    ensures { result ≡ satisfies (sight mem.now (S.rows rows.now) (S.indexed rows.now)) (policy_of mem.now) q user sets }
 {
-    if !are_allowed(
-        mem,
-        rows,
-        indexed,
-        asking(q, user, indexed, q.first, 1),
-        sets[0],
-    ) {
+    if !are_allowed(mem, rows, asking(q, user, rows, q.first, 1), sets[0]) {
         return false;
     }
-    if !are_allowed(
-        mem,
-        rows,
-        indexed,
-        asking(q, user, indexed, q.second, 2),
-        sets[1],
-    ) {
+    if !are_allowed(mem, rows, asking(q, user, rows, q.second, 2), sets[1]) {
         return false;
     }
-    are_allowed(
-        mem,
-        rows,
-        indexed,
-        asking(q, user, indexed, q.third, 3),
-        sets[2],
-    )
+    are_allowed(mem, rows, asking(q, user, rows, q.third, 3), sets[2])
 }
 
 // The decision on a request that is not refused: by the lowest alternative that is satisfied. An alternative that asks nothing is none.
-pub fn choose(
+pub fn choose<S: Lacking>(
     mem: &[u32],
-    rows: &[u8],
-    indexed: bool,
+    rows: &S,
     q: Request,
     user: u32,
     alternatives: [[u32; 3]; 2],
 ) -> Decision
     requires table { Table mem.now }
     requires accepted { Accepted mem.now q }
-    requires all_rows { AllRows mem.now rows.now indexed q user }
+    requires all_rows { AllRows mem.now (S.rows rows.now) (S.indexed rows.now) q user }
     requires user_value { user ≡ user_of (policy_of mem.now) q.process }
     requires alternatives_value { alternatives ≡ capabilities q.operation }
-    ensures { told result ≡ accepted (verdict (sight mem.now rows.now indexed) (policy_of mem.now) (request_of q)) }
+    ensures { verdict_of result ≡ verdict (sight mem.now (S.rows rows.now) (S.indexed rows.now)) (policy_of mem.now) (request_of q) }
 {
-    if is_satisfied(mem, rows, indexed, q, user, alternatives[0]) {
+    if is_satisfied(mem, rows, q, user, alternatives[0]) {
         return Decision::Grant(1);
     }
     let second = alternatives[1];
     if second[0] == 0 {
         return Decision::Deny;
     }
-    if is_satisfied(mem, rows, indexed, q, user, second) {
+    if is_satisfied(mem, rows, q, user, second) {
         return Decision::Grant(2);
     }
     Decision::Deny
@@ -187,11 +153,17 @@ pub fn climb_rows(mem: &[u32], q: Request, user: u32) -> [u8; 256]
 fn by_climb(mem: &[u32], q: Request) -> Decision
     requires table { Table mem.now }
     requires accepted { Accepted mem.now q }
-    ensures { told result ≡ accepted (verdict (contained (policy_of mem.now)) (policy_of mem.now) (request_of q)) }
+    ensures { verdict_of result ≡ verdict (contained (policy_of mem.now)) (policy_of mem.now) (request_of q) }
 {
     let user = table::user_of(mem, q.process);
     let rows = climb_rows(mem, q, user);
-    choose(mem, &rows, false, q, user, request::required(q.operation))
+    choose(
+        mem,
+        &Climbed { rows: &rows },
+        q,
+        user,
+        request::required(q.operation),
+    )
 }
 
 // The decision on a request that is not refused, by the bits of an index.
@@ -199,39 +171,39 @@ fn by_index(mem: &[u32], idx: &[u8], q: Request) -> Decision
     requires table { Table mem.now }
     requires accepted { Accepted mem.now q }
     requires idx_len { length idx.now ≡ 32768 }
-    ensures { told result ≡ accepted (verdict (bit_at idx.now) (policy_of mem.now) (request_of q)) }
+    ensures { verdict_of result ≡ verdict (bit_at idx.now) (policy_of mem.now) (request_of q) }
 {
     let user = table::user_of(mem, q.process);
-    choose(mem, idx, true, q, user, request::required(q.operation))
+    choose(
+        mem,
+        &Indexed { rows: idx },
+        q,
+        user,
+        request::required(q.operation),
+    )
 }
 
 // The plain decision: containment by chains of assignments.
-pub fn decide(mem: &[u32], q: Request) -> Decision
+pub fn decide(mem: &[u32], q: Request) -> Result<Decision, Refusal>
     ensures { told result ≡ deciding (memory mem.now) (request_of q) }
 {
     if !table::holds(mem) {
-        return Decision::Refused(1);
+        return Err(Refusal::NoTable);
     }
-    let number = request::refusal(mem, q);
-    if 0 < number {
-        return Decision::Refused(number);
-    }
-    by_climb(mem, q)
+    request::refusal(mem, q)?;
+    Ok(by_climb(mem, q))
 }
 
 // The indexed decision: containment by the bits of the lent index alone.
-pub fn decide_indexed(mem: &[u32], idx: &[u8], q: Request) -> Decision
+pub fn decide_indexed(mem: &[u32], idx: &[u8], q: Request) -> Result<Decision, Refusal>
     ensures { told result ≡ decide_indexed (memory mem.now) idx.now (request_of q) }
 {
     if !table::holds(mem) {
-        return Decision::Refused(1);
+        return Err(Refusal::NoTable);
     }
     if idx.len() != 32768 {
-        return Decision::Refused(2);
+        return Err(Refusal::OutOfRange);
     }
-    let refusal = request::refusal(mem, q);
-    if 0 < refusal {
-        return Decision::Refused(refusal);
-    }
-    by_index(mem, idx, q)
+    request::refusal(mem, q)?;
+    Ok(by_index(mem, idx, q))
 }

@@ -1,24 +1,29 @@
 -- The lowest subject through which a right is restricted: each return for one prohibition, and the loop over all of them.
 -- Assumes nothing.
-use mathlib.Core.Path.{◌≡◌, refl, sym, ap, ◌∙◌}
-use mathlib.Core.Bool.{Bool, true, false, not, cond, ◌&&◌}
+use mathlib.Core.Path.{◌≡◌, refl, sym, ap, ap₂, ◌∙◌}
+use mathlib.Core.Bool.{Bool, true, false, cond}
 use mathlib.Core.List.{List, [], ◌∷◌, map}
-use Prim.Native.Nat.{ℕ, zero, suc, ◌+◌, ◌≤◌, ◌<◌}
+use Prim.Native.Nat.{ℕ, zero, suc, min, ◌+◌, ◌≤◌, ◌<◌}
 use native.Mathlib.Omega.{arith}
-use borrow.Author.Tests.{eq-eqb, ne_eqb, lt-ltb, le-ltb, not-true, not-false}
-use lib.Dec.{ltb}
-use Rattle.model.specs.Lists.{those, tabulate, least_of}
+use native.Mathlib.Decide.{dec_lt}
+use borrow.Author.Tests.{eq-eqb, ne_eqb, lt-ltb, le-ltb}
+use lib.Dec.{eqb, ltb}
+use Rattle.std.specs.List.{filter, fold, reduce, range_with_len}
+use Rattle.std.specs.Prelude.{Some}
+use Rattle.model.specs.Lists.{In, first, those, tabulate, least_of}
 use Rattle.model.specs.Policy.{Prohibition}
 use Rattle.model.specs.Contain.{contained}
 use Rattle.model.specs.Rule.{restricts, through}
+use Rattle.model.proofs.Truth.{those_in, map_in}
+use Rattle.model.proofs.Decisions.Lowest.{least_in}
 use Rattle.model.proofs.Decisions.Alike.{AlikeRows, restricts_alike}
 use Rattle.table.specs.Layout.{prohibition_count}
 use Rattle.table.specs.View.{policy_of, prohibitions_of, prohibition_at}
-use Rattle.table.proofs.Tabled.{in_tabulate}
+use Rattle.table.proofs.Tabled.{in_tabulate, tabulate_in}
 use Rattle.rule.specs.Sight.{seen}
 use Rattle.rule.specs.declared.Asking.{Asking}
 use Rattle.held.specs.Lacking.{sight, Rows}
-use Rattle.denials.specs.Causes.{restricts_through, lower_subject, lowest_through}
+use Rattle.denials.specs.Causes.{restricts_through, lowest_through, as_subject}
 
 -- rows of marks that say what is meant say what chains of assignments say
 contained_rows : {mem rows : List ℕ} {q : Asking} → Rows mem rows false q
@@ -41,78 +46,68 @@ unfolding policy_of prohibitions_of
 restricts_contained {mem} {rows} {q} w i l =
     restricts_alike (contained_rows w) q.process q.user q.right q.element (prohibition_at mem i) (in_tabulate (prohibition_count mem) (prohibition_at mem) i l)
 
--- One prohibition: each return.
-module _ {mem rows : List ℕ} {q : Asking} (w : Rows mem rows false q) (s i x : ℕ) (l : i < prohibition_count mem) {o : ℕ} (sort : o ≡ (prohibition_at mem i).sort) where
+-- one prohibition that has the sort or not, and restricts or not
+module _ {mem rows : List ℕ} {q : Asking} (w : Rows mem rows false q) (s i : ℕ) (l : i < prohibition_count mem) {o : ℕ} (sort : o ≡ (prohibition_at mem i).sort) where
   -- it has another sort
-  pub lower_other : (o ≡ s → ⊥) → x ≡ lower_subject (policy_of mem) q s (prohibition_at mem i) x
-  unfolding lower_subject restricts_through
-  lower_other d = rw (ne_eqb (prohibition_at mem i).sort s (λ e. d (sort ∙ e)))
+  pub through_other : (o ≡ s → ⊥) → eqb o s ≡ restricts_through (policy_of mem) q s (prohibition_at mem i)
+  unfolding restricts_through
+  through_other d = rw (ne_eqb o s d, ne_eqb (prohibition_at mem i).sort s (λ e. d (sort ∙ e)))
 
-  module _ (h : o ≡ s) {b : Bool}
-      (is : b ≡ restricts (seen rows false q.by) (seen rows false q.over) (policy_of mem) q.process q.user q.right q.element (prohibition_at mem i)) where
-    -- it has the sort: it restricts through it exactly if it restricts
-    through_is : restricts_through (policy_of mem) q s (prohibition_at mem i) ≡ b
-    unfolding restricts_through
-    through_is = rw (eq-eqb (prohibition_at mem i).sort s (sym sort ∙ h)) (sym (is ∙ restricts_contained w i l))
+  -- it has the sort
+  pub through_restricts : o ≡ s → {b : Bool} → b ≡ restricts (seen rows false q.by) (seen rows false q.over) (policy_of mem) q.process q.user q.right q.element (prohibition_at mem i)
+      → b ≡ restricts_through (policy_of mem) q s (prohibition_at mem i)
+  unfolding restricts_through
+  through_restricts h is = rw (eq-eqb (prohibition_at mem i).sort s (sym sort ∙ h)) (is ∙ restricts_contained w i l)
 
-    -- it does not restrict
-    pub lower_free : not b ≡ true → x ≡ lower_subject (policy_of mem) q s (prohibition_at mem i) x
-    unfolding lower_subject
-    lower_free n = rw (through_is, not-true b n)
-
-    module _ (y : not b ≡ false) {own : ℕ} (e : own ≡ (prohibition_at mem i).subject) where
-      -- its subject is lower
-      pub lower_own : own < x → own ≡ lower_subject (policy_of mem) q s (prohibition_at mem i) x
-      unfolding lower_subject
-      lower_own k = rw (through_is, not-false b y, ← e, lt-ltb own x k)
-
-      -- its subject is not lower
-      pub lower_kept : x ≤ own → x ≡ lower_subject (policy_of mem) q s (prohibition_at mem i) x
-      unfolding lower_subject
-      lower_kept k = rw (through_is, not-false b y, ← e, le-ltb own x k)
-
--- the least number of those of a list that is told off one by one, with one more
-module _ {A : Type 0} (t : A → Bool) (n : A → ℕ) where
-  least_more : (i : ℕ) (f : ℕ → A) (x : ℕ)
-      → least_of x (map n (those t (tabulate (suc i) f)))
-      ≡ cond (t (f i) && ltb (n (f i)) (least_of x (map n (those t (tabulate i f))))) (n (f i)) (least_of x (map n (those t (tabulate i f))))
-  unfolding least_of those tabulate
-  least_more zero f x = go (t (f 0))
+-- what is told of those numbers from a on that pass a test is told of those of a list that is told off
+module _ {A : Type 0} (t : A → Bool) (g : A → ℕ) where
+  told_range : (a n : ℕ) (f h : ℕ → A) → ((i : ℕ) → f i ≡ h (a + i)) → map (λ i. g (h i)) (filter (λ i. t (h i)) (range_with_len a n)) ≡ map g (those t (tabulate n f))
+  unfolding those tabulate
+  told_range a zero f h e = refl
+  told_range a (suc n) f h e =
+      let first : h a ≡ f 0 = (let z : a ≡ a + 0 = omega arith in ap h z) ∙ sym (e 0) in
+      let rest : (i : ℕ) → f (suc i) ≡ h (a + 1 + i) = λ i. let z : a + suc i ≡ a + 1 + i = omega arith in e (suc i) ∙ ap h z in
+      rw (ap t first) (go (t (f 0)) _ _ (ap g first) (told_range (a + 1) n (λ i. f (suc i)) h rest))
     where
-      go : (b : Bool) → least_of x (map n (cond b (f 0 ∷ []) [])) ≡ cond (b && ltb (n (f 0)) x) (n (f 0)) x
-      go true = refl
-      go false = refl
-  least_more (suc i) f x = go (t (f 0)) (least_more i (λ j. f (suc j)))
-    where
-      rest : ℕ → List A
-      rest k = those t (tabulate k (λ j. f (suc j)))
+      go : (b : Bool) (l : List ℕ) (m : List A) → g (h a) ≡ g (f 0) → map (λ i. g (h i)) l ≡ map g m → map (λ i. g (h i)) (cond b (a ∷ l) l) ≡ map g (cond b (f 0 ∷ m) m)
+      go true l m x k = ap₂ ◌∷◌ x k
+      go false l m x k = k
 
-      go : (b : Bool)
-          → ((y : ℕ) → least_of y (map n (rest (suc i))) ≡ cond (t (f (suc i)) && ltb (n (f (suc i))) (least_of y (map n (rest i)))) (n (f (suc i))) (least_of y (map n (rest i))))
-          → least_of x (map n (cond b (f 0 ∷ rest (suc i)) (rest (suc i))))
-          ≡ cond (t (f (suc i)) && ltb (n (f (suc i))) (least_of x (map n (cond b (f 0 ∷ rest i) (rest i))))) (n (f (suc i))) (least_of x (map n (cond b (f 0 ∷ rest i) (rest i))))
-      go true k = k (cond (ltb (n (f 0)) x) (n (f 0)) x)
-      go false k = k x
+-- the least of some numbers, told from the first on
+fold_least : (x : ℕ) (l : List ℕ) → least_of x l ≡ fold min x l
+unfolding least_of
+fold_least x [] = refl
+fold_least x (y ∷ l) = ap (λ (z : ℕ). least_of z l) lower ∙ fold_least (min x y) l
+  where
+    lower : cond (ltb y x) y x ≡ min x y
+    lower = elim (dec_lt y x) [
+      | yes k ↦ rw (lt-ltb y x k) (omega arith)
+      | no k ↦ let m : x ≤ y = omega arith in rw (le-ltb y x m) (omega arith)
+    ]
 
--- the lowest subject of the first i prohibitions, 512 where there is none
-unfoldable pub lowest_among : (mem : List ℕ) → Asking → (sort i : ℕ) → ℕ
-lowest_among mem q s i = least_of 512 (map (λ b. b.subject) (those (restricts_through (policy_of mem) q s) (tabulate i (prohibition_at mem))))
+-- of numbers below 512, it is none where there are none
+reduce_least : (l : List ℕ) → ((m : ℕ) → In m l → m < 512) → reduce min l ≡ as_subject (least_of 512 l)
+unfolding least_of
+reduce_least [] h = refl
+reduce_least (x ∷ l) h =
+    let low : least_of x l < 512 = h (least_of x l) (least_in x l) in
+    rw (lt-ltb x 512 (h x first), ne_eqb (least_of x l) 512 (λ e. omega (arith, e, low))) (ap Some (sym (fold_least x l)))
 
--- The loop over all prohibitions.
-module _ (mem : List ℕ) (q : Asking) (s : ℕ) where
-  -- none at the start
-  pub lowest_none : 512 ≡ lowest_among mem q s 0
-  unfolding lowest_among least_of those tabulate
-  lowest_none = refl
+-- the lowest subject of all prohibitions that restrict through the sort
+pub lowest_told : (mem : List ℕ) (q : Asking) (s : ℕ) {n : ℕ} → n ≡ prohibition_count mem
+    → reduce min (map (λ i. (prohibition_at mem i).subject) (filter (λ i. restricts_through (policy_of mem) q s (prohibition_at mem i)) (range_with_len 0 n)))
+    ≡ as_subject (lowest_through (policy_of mem) q s)
+unfolding lowest_through restricts_through through policy_of prohibitions_of
+lowest_told mem q s {n} e =
+    ap (reduce min) (told_range through_sort (λ (b : Prohibition). b.subject) 0 n (prohibition_at mem) (prohibition_at mem) (λ i. ap (prohibition_at mem) (let z : i ≡ 0 + i = omega arith in z)))
+    ∙ (rw e (reduce_least (map (λ (b : Prohibition). b.subject) (those through_sort (tabulate (prohibition_count mem) (prohibition_at mem)))) small))
+  where
+    through_sort : Prohibition → Bool
+    through_sort = restricts_through (policy_of mem) q s
 
-  -- a turn
-  pub lowest_more : (i : ℕ) {x : ℕ} → x ≡ lowest_among mem q s i → {y : ℕ} → y ≡ lower_subject (policy_of mem) q s (prohibition_at mem i) x → y ≡ lowest_among mem q s (i + 1)
-  unfolding lowest_among lower_subject
-  lowest_more i {x} e {y} f =
-      let k : i + 1 ≡ suc i = omega arith in
-      rw k (f ∙ ap (lower_subject (policy_of mem) q s (prohibition_at mem i)) e ∙ sym (least_more (restricts_through (policy_of mem) q s) (λ (b : Prohibition). b.subject) i (prohibition_at mem) 512))
-
-  -- the end
-  pub lowest_end : {n : ℕ} → n ≡ prohibition_count mem → {i : ℕ} → i ≤ n → n ≤ i → {x : ℕ} → x ≡ lowest_among mem q s i → x ≡ lowest_through (policy_of mem) q s
-  unfolding lowest_among lowest_through restricts_through through policy_of prohibitions_of
-  lowest_end {n} c {i} l g e = let k : i ≡ prohibition_count mem = omega arith in e ∙ ap (lowest_among mem q s) k
+    small : (m : ℕ) → In m (map (λ (b : Prohibition). b.subject) (those through_sort (tabulate (prohibition_count mem) (prohibition_at mem)))) → m < 512
+    small m i =
+        let f = map_in (λ (b : Prohibition). b.subject) _ i in
+        let w = tabulate_in (prohibition_count mem) (prohibition_at mem) (those_in _ _ f.there) in
+        let z = ap (λ (b : Prohibition). b.subject) w.is ∙ f.is in
+        omega (arith, z)

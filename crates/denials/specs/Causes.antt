@@ -1,6 +1,6 @@
 -- Why a right is not permitted, of one right asked over one element.
 -- Assumes nothing.
-use Rattle.std.specs.Prelude.{Bool, not, cond, ◌&&◌, List, ℕ, eqb, ltb}
+use Rattle.std.specs.Prelude.{Bool, not, cond, ◌&&◌, List, ℕ, eqb, Option, Some, None}
 use Rattle.model.specs.Lists.{least_of, two}
 use Rattle.model.specs.Policy.{Prohibition, Policy, by_user, by_process, by_attribute, has_right}
 use Rattle.model.specs.Contain.{contained}
@@ -19,13 +19,13 @@ unfoldable pub restricts_through : Policy → Asking → (sort : ℕ) → Prohib
 restricts_through p q s b =
     eqb b.sort s && restricts (contained p q.user) (contained p q.element) p q.process q.user q.right q.element b
 
--- the lower of a subject and the prohibition's own, if that has the sort and restricts
-unfoldable pub lower_subject : Policy → Asking → (sort : ℕ) → Prohibition → (subject : ℕ) → ℕ
-lower_subject p q s b subject = cond (restricts_through p q s b && ltb b.subject subject) b.subject subject
-
 -- the lowest of them, 512 where there is none: subjects are below 512
 unfoldable pub lowest_through : Policy → Asking → (sort : ℕ) → ℕ
 lowest_through p q s = least_of 512 (subjects_through p q s)
+
+-- which subject that number says
+abbrev pub as_subject : ℕ → Option ℕ
+as_subject n = cond (eqb n 512) None (Some n)
 
 -- a cause and its number; the causes are tried from 1 up
 unfoldable pub cause_for : Policy → Asking → List ℕ

@@ -9,51 +9,36 @@ ghost use Rattle.table.specs.Facts.{Table};
 ghost use Rattle.model.specs.Contain.{contained};
 ghost use Rattle.held.specs.Lacking.{lack_by, Rows};
 ghost use Rattle.decide.specs.Asks.{AllRows, satisfies};
-ghost use Rattle.denials.specs.Causes.{lower_subject, lowest_through, cause_for, why_not, why_in};
+ghost use Rattle.denials.specs.Causes.{restricts_through, lowest_through, as_subject, cause_for, why_not, why_in};
 ghost use Rattle.denials.specs.Failing.{failing_row, deny_numbers};
 
+use held::{Holding, Lacking};
 use request::Request;
-use rule::Asking;
+use rule::{Asking, Climbed};
 
-// What `lowest_subject` answers where there is none.
-const NONE: u32 = 512;
-
-// The lower of `subject` and the subject of prohibition i, if that has the sort and restricts.
-fn lower_subject(mem: &[u32], rows: &[u8], q: Asking, sort: u32, i: usize, subject: u32) -> u32
+// Whether prohibition i has the sort and restricts.
+fn restricts_through(mem: &[u32], rows: &[u8], q: Asking, sort: u32, i: usize) -> bool
     requires table { Table mem.now }
     requires rows { Rows mem.now rows.now false q }
     requires right_bound { q.right < 32 }
     requires i_bound { i < prohibition_count mem.now }
-    ensures { result ≡ lower_subject (policy_of mem.now) q sort (prohibition_at mem.now i) subject }
+    ensures { result ≡ restricts_through (policy_of mem.now) q sort (prohibition_at mem.now i) }
 {
-    if table::sort_at(mem, i) != sort {
-        return subject;
-    }
-    if !rule::is_restricting(mem, rows, false, q, i) {
-        return subject;
-    }
-    let own = table::subject_at(mem, i);
-    if own < subject {
-        return own;
-    }
-    subject
+    table::sort_at(mem, i) == sort && rule::is_restricting(mem, &Climbed { rows }, q, i)
 }
 
 // The lowest subject of a sort through which the right is restricted.
-fn lowest_subject(mem: &[u32], rows: &[u8], q: Asking, sort: u32) -> u32
+fn lowest_subject(mem: &[u32], rows: &[u8], q: Asking, sort: u32) -> Option<u32>
     requires table { Table mem.now }
     requires rows { Rows mem.now rows.now false q }
     requires right_bound { q.right < 32 }
-    ensures { result ≡ lowest_through (policy_of mem.now) q sort }
+    ensures { result ≡ as_subject (lowest_through (policy_of mem.now) q sort) }
 {
     let n = table::prohibition_count(mem);
-    let mut subject = NONE;
-    let mut i = 0;
-    while i < n {
-        subject = lower_subject(mem, rows, q, sort, i, subject);
-        i += 1;
-    }
-    subject
+    (0..n)
+        .filter(|i| restricts_through(mem, rows, q, sort, *i))
+        .map(|i| table::subject_at(mem, i))
+        .min()
 }
 
 // Why a right that is held is not permitted: the causes are tried from 2 up.
@@ -64,19 +49,13 @@ fn restriction(mem: &[u32], rows: &[u8], q: Asking) -> [u32; 2]
     requires element_value { lack_by (contained (policy_of mem.now)) (policy_of mem.now) q.user q.right q.element ≡ 512 }
     ensures { result ≡ cause_for (policy_of mem.now) q }
 {
-    let user = lowest_subject(mem, rows, q, 1);
-    if user != NONE {
+    if let Some(user) = lowest_subject(mem, rows, q, 1) {
         return [2, user];
     }
-    let process = lowest_subject(mem, rows, q, 2);
-    if process != NONE {
+    if let Some(process) = lowest_subject(mem, rows, q, 2) {
         return [3, process];
     }
-    let attribute = lowest_subject(mem, rows, q, 3);
-    if attribute == NONE {
-        return [4, 0];
-    }
-    [4, attribute]
+    [4, lowest_subject(mem, rows, q, 3).unwrap_or(0)]
 }
 
 // Why the right is not permitted: the cause and its number, the causes tried from 1 up; 0 and 0 where it is permitted.
@@ -86,14 +65,18 @@ fn why(mem: &[u32], rows: &[u8], q: Asking) -> [u32; 2]
     requires right_bound { q.right < 32 }
     ensures { result ≡ why_not (policy_of mem.now) q }
 {
-    let lacks = held::lack(mem, rows, false, q);
-    if lacks != held::HELD {
-        return [1, lacks];
+    let climbed = Climbed { rows };
+    match climbed.lack(mem, q) {
+        Holding::NoClass => [1, 0],
+        Holding::LackedIn(c) => [1, c],
+        Holding::Held => {
+            if rule::is_restricted(mem, &climbed, q) {
+                restriction(mem, rows, q)
+            } else {
+                [0, 0]
+            }
+        }
     }
-    if !rule::is_restricted(mem, rows, false, q) {
-        return [0, 0];
-    }
-    restriction(mem, rows, q)
 }
 
 // The same of right r, if it is in the set; 0 and 0 where it is not in it.
@@ -125,6 +108,7 @@ fn failing_row(
 {
     let mut left = rights;
     let mut r = 0;
+    // A while: the set is halved from right to right, until none is left.
     while 0 < left {
         let why = why_in(mem, rows, q, rights, r);
         if 0 < why[0] {
@@ -150,16 +134,16 @@ pub fn deny_row(
     requires sets_value { satisfies (contained (policy_of mem.now)) (policy_of mem.now) q user sets ≡ false }
     ensures { result ≡ deny_numbers (policy_of mem.now) q user alternative sets }
 {
-    let first = decide::asking(q, user, false, q.first, 1);
+    let first = decide::asking(q, user, &Climbed { rows }, q.first, 1);
     let r = failing_row(mem, rows, first, sets[0], alternative, 1);
     if 0 < r[3] {
         return r;
     }
-    let second = decide::asking(q, user, false, q.second, 2);
+    let second = decide::asking(q, user, &Climbed { rows }, q.second, 2);
     let s = failing_row(mem, rows, second, sets[1], alternative, 2);
     if 0 < s[3] {
         return s;
     }
-    let third = decide::asking(q, user, false, q.third, 3);
+    let third = decide::asking(q, user, &Climbed { rows }, q.third, 3);
     failing_row(mem, rows, third, sets[2], alternative, 3)
 }

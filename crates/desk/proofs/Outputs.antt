@@ -16,14 +16,15 @@ use Rattle.model.specs.Image.{policy_in, image_lines, load_lines, read_image}
 use Rattle.model.specs.Calls.{kept}
 use Rattle.model.specs.Desk.{line, L, counts_line, requests_of, printed, desk}
 use Rattle.model.proofs.Truth.{clash}
-use Rattle.model.proofs.Refusals.{first_refused, accepted_none}
-use Rattle.table.specs.declared.Outcome.TheVariants.{Done, Refused}
+use Rattle.model.proofs.Refusals.{first_refused, refused_first, accepted_none}
+use Rattle.std.specs.Prelude.{Ok}
+use Rattle.answer.specs.Answers as answers
 use Rattle.table.specs.Layout.{word_count}
 use Rattle.table.specs.View.{holds_table, policy_of}
-use Rattle.table.specs.Answers.{left, told}
+use Rattle.table.specs.Answers.{left}
 use Rattle.table.proofs.Outcomes.{never}
 use Rattle.image.specs.Answers.{load_table}
-use Rattle.image.proofs.Theorems.{load_refused, load_table_lem, load_reads}
+use Rattle.image.proofs.Theorems.{load_table_lem, load_reads}
 use Rattle.desk.specs.Printing.{image_length, is_short, image_answer}
 use Rattle.desk.specs.Running.{AtHand}
 use Rattle.desk.proofs.Reading.{enough}
@@ -77,20 +78,15 @@ module _ (hand more : List ℕ) (e : is_short hand ≡ false) where
 
 -- The image as it is answered on words of the published length is the image as it is read.
 module _ (image words : List ℕ) (fits : length words ≡ word_count) where
-  -- a refusal by lines is a result of load
-  as_refused : (ls : List Line) (a : List ℕ) {k : ℕ} → answer ls a ≡ refused k → left (Refused k) words ≡ record { answers = answer ls a; words = kept (answer ls a) a words }
-  unfolding told kept
-  as_refused ls a e = rw e
-
-  -- so is an accepted one
-  as_done : (ls : List Line) (a : List ℕ) {made : List ℕ} → answer ls a ≡ accepted made → left Done made ≡ record { answers = answer ls a; words = kept (answer ls a) a words }
-  unfolding told kept
+  -- an acceptance by lines is a result of load
+  as_done : (ls : List Line) (a : List ℕ) {made : List ℕ} → answer ls a ≡ accepted made → left (Ok tt) made ≡ record { answers = answer ls a; words = kept (answer ls a) a words }
+  unfolding answers.told kept
   as_done ls a {made} e = rw (e, ← (accepted_none a ls e).1)
 
   -- refused alike
   pub read_refused : {k : ℕ} → (load_table image words).answers ≡ refused k → read_image image ≡ refused k
   unfolding load_table read_image
-  read_refused {k} e = go (load_refused image words (Refused k) words (as_refused _ _ e) refl)
+  read_refused {k} e = go (refused_first _ (load_lines (eqb (length words) word_count) image) e)
     where
       go : First k (load_lines (eqb (length words) word_count) image) → answer (image_lines image) (policy_in image) ≡ refused k
       go (now q h) = absurd (clash h (ap not (eq-eqb (length words) word_count fits)))
@@ -100,8 +96,8 @@ module _ (image words : List ℕ) (fits : length words ≡ word_count) where
   pub read_accepted : {made : List ℕ} → (load_table image words).answers ≡ accepted made → (holds_table made ≡ true) × (read_image image ≡ accepted (policy_of made))
   unfolding load_table
   read_accepted {made} e =
-      let c : left Done made ≡ load_table image words = as_done _ _ e in
-      (load_table_lem image words Done made c refl, load_reads image words Done made c refl)
+      let c : left (Ok tt) made ≡ load_table image words = as_done _ _ e in
+      (load_table_lem image words (Ok tt) made c refl, load_reads image words (Ok tt) made c refl)
 
 -- an accepted image is there
 pub accepted_whole : (s words : List ℕ) {made : List ℕ} → image_answer s words ≡ accepted made → is_short s ≡ false

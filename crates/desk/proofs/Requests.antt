@@ -1,6 +1,6 @@
 -- The lines of requests, one after another, are those of the definition.
 -- Assumes nothing.
-use mathlib.Core.Path.{◌≡◌, refl, sym, ap, ◌∙◌}
+use mathlib.Core.Path.{◌≡◌, refl, sym, ◌∙◌}
 use mathlib.Core.Bool.{true}
 use mathlib.Core.List.{List, [], ◌∷◌, ◌++◌, append_assoc, append-nil}
 use mathlib.Core.Logic.{◌⊎◌, inl, inr}
@@ -9,7 +9,7 @@ use native.Mathlib.Omega.{arith}
 use native.Mathlib.Decide.{dec_le}
 use borrow.Author.Tests.{ne_eqb, lt-ltb, le-ltb, eqb-true, leb-true}
 use lib.Dec.{eqb, leb}
-use lib.ListN.{length, take, drop, length-append, length-drop, drop_of_length-le}
+use lib.ListN.{length, take, drop, length-append, length-drop}
 use lib.Seq.{length-take-le, take_all, take-append-le, take-take}
 use Rattle.model.specs.Policy.{Policy}
 use Rattle.model.specs.Explain.{joined}
@@ -21,12 +21,12 @@ use Rattle.desk.proofs.Lengths.{first_short}
 
 module _ (p : Policy) where
   -- of one to four bytes the line is that of a request cut short
-  cut_line : (s : List ℕ) → 1 ≤ length s → length s ≤ 4 → first_line p s ≡ line R (12 ∷ [])
+  pub cut_line : (s : List ℕ) → 1 ≤ length s → length s ≤ 4 → first_line p s ≡ line R (12 ∷ [])
   unfolding first_line
   cut_line s a b = rw (ne_eqb (length s) 0 (λ z. omega arith), lt-ltb (length s) 5 (omega arith))
 
   -- of five or more it is that of the first five
-  whole_line : (s : List ℕ) → 5 ≤ length s → first_line p s ≡ request_line p (bits_of (take 5 s))
+  pub whole_line : (s : List ℕ) → 5 ≤ length s → first_line p s ≡ request_line p (bits_of (take 5 s))
   unfolding first_line
   whole_line s a = rw (ne_eqb (length s) 0 (λ z. omega arith), le-ltb (length s) 5 a)
 
@@ -39,22 +39,6 @@ module _ (p : Policy) where
   first_then (a ∷ b ∷ c ∷ []) = rw (cut_line (a ∷ b ∷ c ∷ []) (omega arith) (omega arith)) (append-nil (line R (12 ∷ [])))
   first_then (a ∷ b ∷ c ∷ d ∷ []) = rw (cut_line (a ∷ b ∷ c ∷ d ∷ []) (omega arith) (omega arith)) (append-nil (line R (12 ∷ [])))
   first_then (a ∷ b ∷ c ∷ d ∷ e ∷ more) = rw (whole_line (a ∷ b ∷ c ∷ d ∷ e ∷ more) (omega arith))
-
-  -- of at most five bytes the first line is all
-  pub last_line : (s : List ℕ) → length s ≤ 5 → requests_of p s ≡ first_line p s
-  unfolding requests_of
-  last_line s h =
-      let z : drop 5 s ≡ [] = drop_of_length-le s h in
-      sym (first_then s) ∙ ap (λ (l : List ℕ). first_line p s ++ requests_of p l) z ∙ append-nil (first_line p s)
-
-  -- of one to four it is that of a request cut short
-  pub cut_requests : (s : List ℕ) → 1 ≤ length s → length s ≤ 4 → requests_of p s ≡ line R (12 ∷ [])
-  cut_requests s a b = last_line s (omega arith) ∙ cut_line s a b
-
-  -- of five it is that of the five
-  pub one_request : (s : List ℕ) → length s ≡ 5 → requests_of p s ≡ request_line p (bits_of s)
-  one_request s h =
-      last_line s (omega arith) ∙ whole_line s (omega arith) ∙ ap (λ (l : List ℕ). request_line p (bits_of l)) (take_all 5 s (omega arith))
 
   -- the lines of whole requests, and those of what is behind them, are all lines
   pub whole_then : (s more : List ℕ) → length s % 5 ≡ 0 → requests_of p (s ++ more) ≡ requests_of p s ++ requests_of p more
@@ -102,7 +86,7 @@ module _ (p : Policy) where
       go (inr h) = rw (a.parts, h, append-nil hand) (append-nil (requests_of p hand))
 
   -- the line of a request is known by its five bytes
-  five_line : (s : List ℕ) → first_line p (take 5 s) ≡ first_line p s
+  pub five_line : (s : List ℕ) → first_line p (take 5 s) ≡ first_line p s
   five_line s = elim (dec_le 5 (length s)) [
     | yes l ↦
         let e : length (take 5 s) ≡ 5 = length-take-le 5 s l in

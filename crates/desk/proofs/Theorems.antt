@@ -32,11 +32,12 @@ use Rattle.explain.specs.declared.Explanation.{Explanation}
 use Rattle.explain.specs.declared.Explanation.TheVariants as explanation
 use Rattle.explain.proofs.Theorems.{deny_rows_exact, first_deny_row}
 use Rattle.policy.specs.Allows as policy
-use Rattle.desk.specs.declared.Printed.{Printed}
-use Rattle.desk.specs.declared.Printed.TheVariants.{Length}
+use Rattle.std.specs.Prelude.{Result, Ok}
+use Rattle.answer.specs.declared.Refusal.{Refusal}
+use Rattle.answer.specs.Answers as answers
 use Rattle.desk.specs.declared.Opened.{Opened}
 use Rattle.desk.specs.declared.Opened.TheVariants as opened
-use Rattle.desk.specs.Printing.{line_room, first_line, answering, told, image_length, is_short, image_answer, head_line, begun, words_in, Beginning, told_begun}
+use Rattle.desk.specs.Printing.{line_room, first_line, answering, image_length, is_short, image_answer, begun_by, head_line, begun, words_in, Beginning}
 use Rattle.desk.specs.Allows as allows
 use Rattle.desk.specs.Claims.{Unique, WantedExact, BeginRefusalsExact, AnswerRefusalsExact, AnswerAllRefusalsExact, Begins, BeginExact, AnswerExact, AnswerAllExact, NeverTen, NeverTenAll, needed, TwoSuffice, TwoRowsSuffice, LinesAre, LinesExist, DeskPrints}
 use Rattle.desk.specs.Running.{AtHand, Lines, none, then, all_then, Prints, all_printed, lines_follow}
@@ -87,46 +88,46 @@ answer_all_refusals_exact = λ words s room room' r e. put_refused (answer_all_p
 pub begin_exact : BeginExact
 begin_exact = record {
   begins = λ words s room words' room' r e. begin_none words s room r words' room' e;
-  start = λ words s room words' room' n start e. begin_start words s room (opened.Open n start) words' room' e refl;
-  table = λ words s room words' room' n start e. begin_table words s room (opened.Open n start) words' room' e refl;
-  open_short = λ words s room words' room' n start e. begin_open_short words s room (opened.Open n start) words' room' e refl;
-  closed_short = λ words s room words' room' n e. begin_closed_short words s room (opened.Closed n) words' room' e refl;
+  start = λ words s room words' room' n start e. begin_start words s room (Ok (opened.Open n start)) words' room' e refl;
+  table = λ words s room words' room' n start e. begin_table words s room (Ok (opened.Open n start)) words' room' e refl;
+  open_short = λ words s room words' room' n start e. begin_open_short words s room (Ok (opened.Open n start)) words' room' e refl;
+  closed_short = λ words s room words' room' n e. begin_closed_short words s room (Ok (opened.Closed n)) words' room' e refl;
 }
 
 -- what `answer` tells and prints where it is not refused
 pub answer_exact : AnswerExact
 answer_exact = record {
   prints = λ words s room room' r e. put_exactly (answer_puts words s room r room' e);
-  in_front = λ words s room room' n e. put_bytes (answer_puts words s room (Length n) room' e) refl;
-  short = λ words s room room' n e. rw (put_none (answer_puts words s room (Length n) room' e) refl).1 (first_short (policy_of words) s);
+  in_front = λ words s room room' n e. put_bytes (answer_puts words s room (Ok n) room' e) refl;
+  short = λ words s room room' n e. rw (put_none (answer_puts words s room (Ok n) room' e) refl).1 (first_short (policy_of words) s);
 }
 
 -- what `answer_all` does
 pub answer_all_exact : AnswerAllExact
 answer_all_exact = record {
   prints = λ words s room room' r e. put_exactly (answer_all_puts words s room r room' e);
-  in_front = λ words s room room' n e. put_bytes (answer_all_puts words s room (Length n) room' e) refl;
-  short = λ words s room room' n e. rw (put_none (answer_all_puts words s room (Length n) room' e) refl).1 (requests_short (policy_of words) s);
+  in_front = λ words s room room' n e. put_bytes (answer_all_puts words s room (Ok n) room' e) refl;
+  short = λ words s room room' n e. rw (put_none (answer_all_puts words s room (Ok n) room' e) refl).1 (requests_short (policy_of words) s);
 }
 
 -- the line of a request is never `R 10`
 pub never_ten : NeverTen
-never_ten = λ words s room room' n e f. first_apart (policy_of words) s (sym (put_text (answer_puts words s room (Length n) room' e) refl) ∙ f)
+never_ten = λ words s room room' n e f. first_apart (policy_of words) s (sym (put_text (answer_puts words s room (Ok n) room' e) refl) ∙ f)
 
 -- nor is any of the lines of all requests
 pub never_ten_all : NeverTenAll
 never_ten_all = λ words s room room' n e. record {
-  lines = put_text (answer_all_puts words s room (Length n) room' e) refl ∙ one_by_one (policy_of words) s;
+  lines = put_text (answer_all_puts words s room (Ok n) room' e) refl ∙ one_by_one (policy_of words) s;
   no_ten = first_apart (policy_of words);
 }
 
 -- two lent rows are enough for a request that is denied on words that hold a table
-two_rows : {words : List ℕ} (q : Request) → Table words → policy.decide words q decision.Deny → (e : Explanation) (room why : List (List ℕ)) → 2 ≤ length room
+two_rows : {words : List ℕ} (q : Request) → Table words → policy.decide words q (Ok decision.Deny) → (e : Result Explanation Refusal) (room why : List (List ℕ)) → 2 ≤ length room
     → policy.explain_numbers words q room e why → TwoSuffice words q e why
 two_rows {words} q table decided e room why h c =
     let k : Accepted words q = denied_accepted q table refl decided in
     let v = denied_verdict q table refl decided in
-    let i : e ≡ explanation.Deny (needed words q) = deny_explained table k v e room h c in
+    let i : e ≡ Ok (explanation.Deny (needed words q)) = deny_explained table k v e room h c in
     let s : 1 ≤ length (alternatives_of (request_of q)) = some_alternative q.operation (operation_some k) k.operation in
     let n : needed words q ≡ length (alternatives_of (request_of q)) = (deny_rows_exact words q room why e c i).count in
     record {
@@ -139,22 +140,22 @@ two_rows {words} q table decided e room why h c =
 -- so they are for any request that is denied: the words hold a table then
 pub two_rows_suffice : TwoRowsSuffice
 two_rows_suffice = λ words q d room why e.
-    two_rows q (table_of_lem words (held (holds_table words) (policy_of words) (request_of q) ((deny_exact words q decision.Deny d).0 refl).0)) d e room why
+    two_rows q (table_of_lem words (held (holds_table words) (policy_of words) (request_of q) ((deny_exact words q (Ok decision.Deny) d).0 refl).0)) d e room why
   where
     held : (b : Bool) (p : Policy) (q : Asks) → None (request_lines b p q) → b ≡ true
     held b p q (past e f) = not-false b e
 
 -- answers_lines: the line that a call prints, and the lines of what is behind the first five bytes, are all lines
-pub answers_lines : (words room : List ℕ) (r : Printed) (bytes : List ℕ) {hand more s : List ℕ} → AtHand (leb 5 (length hand)) hand more s
+pub answers_lines : (words room : List ℕ) (r : Result ℕ Refusal) (bytes : List ℕ) {hand more s : List ℕ} → AtHand (leb 5 (length hand)) hand more s
     → allows.answer words hand room r bytes
-    → {n : ℕ} → r ≡ Length n → take n bytes ++ requests_of (policy_of words) (drop 5 s) ≡ requests_of (policy_of words) s
+    → {n : ℕ} → r ≡ Ok n → take n bytes ++ requests_of (policy_of words) (drop 5 s) ≡ requests_of (policy_of words) s
 answers_lines words room r bytes {hand} {more} {s} lent call e =
     rw (put_text (answer_puts words hand room r bytes call) e, hand_line (policy_of words) lent) (first_then (policy_of words) s)
 
 -- pieces_lines: the lines that a call prints of a piece, and the lines of what is behind it, are all lines
-pub pieces_lines : (words room : List ℕ) (r : Printed) (bytes : List ℕ) {hand more s : List ℕ} → AtHand (eqb (length hand % 5) 0) hand more s
+pub pieces_lines : (words room : List ℕ) (r : Result ℕ Refusal) (bytes : List ℕ) {hand more s : List ℕ} → AtHand (eqb (length hand % 5) 0) hand more s
     → allows.answer_all words hand room r bytes
-    → {n : ℕ} → r ≡ Length n → take n bytes ++ requests_of (policy_of words) more ≡ requests_of (policy_of words) s
+    → {n : ℕ} → r ≡ Ok n → take n bytes ++ requests_of (policy_of words) more ≡ requests_of (policy_of words) s
 pieces_lines words room r bytes {hand} {more} {s} lent call e =
     rw (put_text (answer_all_puts words hand room r bytes call) e) (hand_lines (policy_of words) lent)
 
@@ -163,22 +164,22 @@ all_lines : {words s text : List ℕ} → Lines words s text → text ≡ reques
 unfolding requests_of
 all_lines none = refl
 all_lines {words} (then {s = s} lent room bytes n call {text = text} l) =
-    rw (all_lines l) (answers_lines words room (Length n) bytes lent call refl)
+    rw (all_lines l) (answers_lines words room (Ok n) bytes lent call refl)
 all_lines {words} (all_then {s = s} lent room bytes n call {text = text} l) =
-    rw (all_lines l) (pieces_lines words room (Length n) bytes lent call refl)
+    rw (all_lines l) (pieces_lines words room (Ok n) bytes lent call refl)
 
 -- Such calls there are, on any words that hold a table and over any bytes.
 module _ (words : List ℕ) (table : holds_table words ≡ true) where
   -- one more call in front
   one_more : (s : List ℕ) → Lines words (drop 5 s) (requests_of (policy_of words) (drop 5 s)) → Lines words s (requests_of (policy_of words) s)
-  unfolding answering told answer kept
+  unfolding answering answers.told answer kept
   one_more s l =
       let p = policy_of words in
       let room : List ℕ = replicate 64 0 in
       let lent : AtHand (leb 5 (length s)) s [] s = record { parts = sym (append-nil s); enough = inr refl } in
-      let call : allows.answer words s room (Length (length (first_line p s))) (over (first_line p s) room) = rw table in
+      let call : allows.answer words s room (Ok (length (first_line p s))) (over (first_line p s) room) = rw table in
       let e : take (length (first_line p s)) (over (first_line p s) room) ++ requests_of p (drop 5 s) ≡ requests_of p s =
-      answers_lines words room (Length (length (first_line p s))) (over (first_line p s) room) lent call refl in
+      answers_lines words room (Ok (length (first_line p s))) (over (first_line p s) room) lent call refl in
       rw e at (then lent room (over (first_line p s) room) (length (first_line p s)) call l)
 
   -- call after call, five bytes at a time
@@ -202,27 +203,27 @@ lines_exist = each_line
 -- The whole: any input, of which the bytes at hand are all or hold the length and the image; any words of the published length; any room of at least
 -- 64 bytes.
 module _ (words room : List ℕ) (fits : length words ≡ word_count) (wide : line_room ≤ length room) {hand more s : List ℕ}
-    (lent : AtHand (not (is_short hand)) hand more s) (r : Opened) (words' bytes' : List ℕ) (call : allows.begin words hand room r words' bytes') where
+    (lent : AtHand (not (is_short hand)) hand more s) (r : Result Opened Refusal) (words' bytes' : List ℕ) (call : allows.begin words hand room r words' bytes') where
   -- no line holds
   not_refused : Begins words hand room r words' bytes'
   not_refused = begin_none words hand room r words' bytes' call (past (ap not (eq-eqb (length words) word_count fits)) (past (le-ltb (length room) line_room wide) end))
 
   -- the image is refused
   refused_prints : {k : ℕ} → image_answer hand words ≡ refused k → Prints s r words' bytes'
-  unfolding begun head_line told_begun
+  unfolding begun head_line answers.told begun_by
   refused_prints {k} e =
       let h : List ℕ = line L (k ∷ []) in
-      let rr : r ≡ opened.Closed (length h) = one_opened r (opened.Closed (length h)) (rw e at not_refused.tells) in
+      let rr : r ≡ Ok (opened.Closed (length h)) = one_opened r (Ok (opened.Closed (length h))) (rw e at not_refused.tells) in
       let bb : bytes' ≡ h ++ drop (length h) room = rw e at not_refused.room_is in
       rw (rr, bb) (all_printed (desk_refused words fits lent e ∙ sym (take-append_seam h (drop (length h) room))))
 
   -- the image is accepted
   accepted_prints : {made : List ℕ} → image_answer hand words ≡ accepted made → Prints s r words' bytes'
-  unfolding begun head_line words_in told_begun
+  unfolding begun head_line words_in answers.told begun_by
   accepted_prints {made} e =
       let h : List ℕ = counts_line (policy_of made) in
       let start : ℕ = 2 + image_length hand in
-      let rr : r ≡ opened.Open (length h) start = one_opened r (opened.Open (length h) start) (rw e at not_refused.tells) in
+      let rr : r ≡ Ok (opened.Open (length h) start) = one_opened r (Ok (opened.Open (length h) start)) (rw e at not_refused.tells) in
       let ww : words' ≡ made = rw e at not_refused.words_are in
       let bb : bytes' ≡ h ++ drop (length h) room = rw e at not_refused.room_is in
       let d = desk_accepted words fits lent e in

@@ -1,6 +1,6 @@
 -- What the calls of the desk print, answer and leave.
 -- Assumes nothing.
-use Rattle.std.specs.Prelude.{Bool, true, cond, not, List, [], ◌∷◌, ℕ, zero, suc, ◌+◌, ◌*◌, ◌/◌, eqb, ltb, length, take, drop, get_or}
+use Rattle.std.specs.Prelude.{Result, Bool, true, cond, not, List, [], ◌∷◌, ℕ, zero, suc, ◌+◌, ◌*◌, ◌/◌, eqb, ltb, length, take, drop, get_or}
 use Rattle.model.specs.Policy.{Policy}
 use Rattle.model.specs.Refusal.{Line, ◌when◌, Answer, refused, accepted, answer}
 use Rattle.model.specs.Bits.{bits_of}
@@ -9,8 +9,8 @@ use Rattle.model.specs.Calls.{Saving, kept, over}
 use Rattle.table.specs.Layout.{word_count}
 use Rattle.table.specs.View.{holds_table, policy_of}
 use Rattle.image.specs.Answers.{load_table}
-use Rattle.desk.specs.declared.Printed.{Printed}
-use Rattle.desk.specs.declared.Printed.TheVariants.{Length, Refused}
+use Rattle.answer.specs.declared.Refusal.{Refusal}
+use Rattle.answer.specs.Answers as answers
 use Rattle.desk.specs.declared.Opened.{Opened}
 use Rattle.desk.specs.declared.Opened.TheVariants as opened
 
@@ -56,13 +56,12 @@ answer_all_lines words s room = (1 when not (holds_table words)) ∷ (10 when lt
 unfoldable pub answering_all : (words s room : List ℕ) → Saving
 answering_all words s room = printing (answer_all_lines words s room) (requests_of (policy_of words) s) room
 
--- `Length`: so many bytes were printed; `Refused`: the refusal number
-unfoldable pub told : Printed → Answer ℕ
-told (Length n) = accepted n
-told (Refused n) = refused n
+-- `Ok`: so many bytes were printed; `Err`: the refusal's number
+abbrev pub told : Result ℕ Refusal → Answer ℕ
+told r = answers.told (λ n. n) r
 
 -- the same of what the code answers and leaves
-abbrev pub left : Printed → (bytes : List ℕ) → Saving
+abbrev pub left : Result ℕ Refusal → (bytes : List ℕ) → Saving
 left r bytes = record { answers = told r; leaves = bytes }
 
 -- "image length in two bytes (high first)"
@@ -119,12 +118,15 @@ beginning s words room =
     record { answers = told; words = kept told (words_in image words) words; bytes = kept told (over (head_line image) room) room }
 
 -- `Open`: the image was accepted, so many bytes were printed, and there the requests start; `Closed`: the image was refused, so many bytes were
--- printed; `Refused`: the refusal number
-unfoldable pub told_begun : Opened → Answer Begun
-told_begun (opened.Open n start) = accepted (requests_follow n start)
-told_begun (opened.Closed n) = accepted (nothing_more n)
-told_begun (opened.Refused n) = refused n
+-- printed
+unfoldable pub begun_by : Opened → Begun
+begun_by (opened.Open n start) = requests_follow n start
+begun_by (opened.Closed n) = nothing_more n
+
+-- `Ok`: what was begun; `Err`: the refusal's number
+abbrev pub told_begun : Result Opened Refusal → Answer Begun
+told_begun r = answers.told begun_by r
 
 -- the same of what the code answers and leaves
-abbrev pub left_begun : Opened → (words bytes : List ℕ) → Beginning
+abbrev pub left_begun : Result Opened Refusal → (words bytes : List ℕ) → Beginning
 left_begun r words bytes = record { answers = told_begun r; words = words; bytes = bytes }

@@ -2,23 +2,25 @@
 // one reads the image and prints the first line; one answers a request and prints its line; one answers all requests of a piece and prints their lines.
 #![tactic(auto)]
 
-ghost use Rattle.std.specs.Prelude.{◌≡◌, [], ◌∷◌, ◌+◌, ◌*◌, ◌≤◌, ◌<◌, length};
+ghost use Rattle.std.specs.Prelude.{◌≡◌, Ok, [], ◌∷◌, ◌+◌, ◌*◌, ◌≤◌, ◌<◌, length};
 ghost use Rattle.model.specs.Bits.{bits_of};
 ghost use Rattle.model.specs.Contain.{contained};
 ghost use Rattle.model.specs.Request.{deny, verdict};
 ghost use Rattle.model.specs.Explain.{rows};
-ghost use Rattle.model.specs.Desk.{line, R, counts_line, request_in, deny_line, request_line, requests_of};
-ghost use Rattle.table.specs.View.{policy_of};
+ghost use Rattle.model.specs.Calls.{decide};
+ghost use Rattle.model.specs.Desk.{line, R, counts_line, request_in, deny_line, answer_line, request_line, requests_of};
+ghost use Rattle.table.specs.View.{policy_of, memory};
 ghost use Rattle.table.specs.Facts.{Table};
 ghost use Rattle.request.specs.Asks.{request_of, Accepted};
+ghost use Rattle.decide.specs.Answers.{told as told_decided};
 ghost use Rattle.lines.specs.Typing.{Typed};
-ghost use Rattle.desk.specs.Printing.{line_room, request_count, image_length};
+ghost use Rattle.desk.specs.Printing.{line_room, first_line, request_count, image_length};
 ghost use Rattle.desk.specs.Allows as allows;
 
+use answer::Refusal;
 use bits::Cursor;
 use decide::Decision;
 use request::Request;
-use table::Outcome;
 
 // A line needs no more bytes.
 pub const LINE: usize = 64;
@@ -40,19 +42,11 @@ const DENY: u8 = 68;
 
 const REFUSED: u8 = 82;
 
-// How many bytes were printed, or a refusal number.
-#[derive(Clone, Copy)]
-pub enum Printed {
-    Length(usize),
-    Refused(u32),
-}
-
-// An accepted image: how many bytes were printed, and where the requests start. A refused image: how many bytes were printed. Or a refusal number.
+// An accepted image: how many bytes were printed, and where the requests start. A refused image: how many bytes were printed.
 #[derive(Clone, Copy)]
 pub enum Opened {
     Open(usize, usize),
     Closed(usize),
-    Refused(u32),
 }
 
 // The request that forty bits are.
@@ -87,12 +81,25 @@ fn put_denial(mem: &[u32], q: Request, out: &mut [u8]) -> usize
     ensures { Typed (deny_line (rows (contained (policy_of mem.now)) (policy_of mem.now) (request_of q))) 0 out.old out.new result }
 {
     let mut why = [[0u32; 8]; 2];
-    policy::explain_numbers(mem, q, &mut why);
+    let _explained = policy::explain_numbers(mem, q, &mut why);
     let numbers = [why[0][1], why[0][2], why[0][3], why[0][4]];
     lines::put_line(out, DENY, &numbers)
 }
 
-// Puts the line of a request that is not cut: decides first, and explains only a deny.
+// Puts the line of a verdict on a request; only a deny is explained.
+fn put_verdict(mem: &[u32], q: Request, verdict: Decision, out: &mut [u8]) -> usize
+    requires table { Table mem.now }
+    requires decided { told_decided (Ok verdict) ≡ decide (memory mem.now) (request_of q) }
+    requires in_bounds { 64 ≤ length out.old }
+    ensures { Typed (answer_line (rows (contained (policy_of mem.now)) (policy_of mem.now) (request_of q)) (decide (memory mem.now) (request_of q))) 0 out.old out.new result }
+{
+    match verdict {
+        Decision::Grant(k) => lines::put_line(out, GRANT, &[k]),
+        Decision::Deny => put_denial(mem, q, out),
+    }
+}
+
+// Puts the line of a request that is not cut: decides first.
 fn put_answer(mem: &[u32], s: &[u8], out: &mut [u8]) -> usize
     requires table { Table mem.now }
     requires s_len { length s.now ≡ 5 }
@@ -104,11 +111,9 @@ fn put_answer(mem: &[u32], s: &[u8], out: &mut [u8]) -> usize
         return lines::put_line(out, REFUSED, &[2]);
     }
     let q = request_in(s);
-    let decision = policy::decide(mem, q);
-    match decision {
-        Decision::Grant(k) => lines::put_line(out, GRANT, &[k]),
-        Decision::Deny => put_denial(mem, q, out),
-        Decision::Refused(n) => lines::put_line(out, REFUSED, &[n]),
+    match policy::decide(mem, q) {
+        Ok(verdict) => put_verdict(mem, q, verdict, out),
+        Err(refusal) => lines::put_line(out, REFUSED, &[u32::from(refusal)]),
     }
 }
 
@@ -122,22 +127,22 @@ fn put_cut(out: &mut [u8]) -> usize
 }
 
 // Answers the first request among the bytes: prints its line in front of the lent bytes, which must be at least 64.
-pub fn answer(mem: &[u32], s: &[u8], out: &mut [u8]) -> Printed
+pub fn answer(mem: &[u32], s: &[u8], out: &mut [u8]) -> Result<usize, Refusal>
     ensures { allows.answer mem.now s.now out.old result out.new }
 {
     if !table::holds(mem) {
-        return Printed::Refused(1);
+        return Err(Refusal::NoTable);
     }
     if out.len() < LINE {
-        return Printed::Refused(10);
+        return Err(Refusal::NoRoom);
     }
     if s.len() == 0 {
-        return Printed::Length(0);
+        return Ok(0);
     }
     if s.len() < REQUEST {
-        return Printed::Length(put_cut(out));
+        return Ok(put_cut(out));
     }
-    Printed::Length(put_answer(mem, &s[0..REQUEST], out))
+    Ok(put_answer(mem, &s[0..REQUEST], out))
 }
 
 // How many requests the bytes are.
@@ -151,38 +156,46 @@ fn request_count(s: &[u8]) -> usize
     n / REQUEST + 1
 }
 
+// Puts the line of one request, or of one that is cut short.
+fn put_one(mem: &[u32], s: &[u8], out: &mut [u8]) -> usize
+    requires table { Table mem.now }
+    requires some { 0 < length s.now }
+    requires s_len_bound { length s.now ≤ 5 }
+    requires in_bounds { 64 ≤ length out.old }
+    ensures { Typed (first_line (policy_of mem.now) s.now) 0 out.old out.new result }
+{
+    if s.len() < REQUEST {
+        put_cut(out)
+    } else {
+        put_answer(mem, s, out)
+    }
+}
+
 // Puts the lines of the requests, one behind the other.
 fn put_lines(mem: &[u32], s: &[u8], out: &mut [u8]) -> usize
     requires table { Table mem.now }
     requires s_in_bounds { line_room * request_count s.now ≤ length out.old }
     ensures { Typed (requests_of (policy_of mem.now) s.now) 0 out.old out.new result }
 {
-    let n = s.len();
-    let mut at = 0;
     let mut used = 0;
-    while REQUEST <= n - at {
-        let behind = at + REQUEST;
-        used += put_answer(mem, &s[at..behind], &mut out[used..]);
-        at = behind;
-    }
-    if at < n {
-        return used + put_cut(&mut out[used..]);
+    for request in s.chunks(REQUEST) {
+        used += put_one(mem, request, &mut out[used..]);
     }
     used
 }
 
 // Answers all requests among the bytes: prints their lines, one behind the other, in front of the lent bytes, which must be at least 64 for each request.
-pub fn answer_all(mem: &[u32], s: &[u8], out: &mut [u8]) -> Printed
+pub fn answer_all(mem: &[u32], s: &[u8], out: &mut [u8]) -> Result<usize, Refusal>
     ensures { allows.answer_all mem.now s.now out.old result out.new }
 {
     if !table::holds(mem) {
-        return Printed::Refused(1);
+        return Err(Refusal::NoTable);
     }
     let requests = request_count(s);
     if out.len() / LINE < requests {
-        return Printed::Refused(10);
+        return Err(Refusal::NoRoom);
     }
-    Printed::Length(put_lines(mem, s, out))
+    Ok(put_lines(mem, s, out))
 }
 
 // Puts the line of the table's counts.
@@ -232,22 +245,25 @@ pub fn wanted(s: &[u8]) -> usize
 }
 
 // Begins: reads the length and the image into the memory, and prints the first line in front of the lent bytes, which must be at least 64.
-pub fn begin(mem: &mut [u32], s: &[u8], out: &mut [u8]) -> Opened
+pub fn begin(mem: &mut [u32], s: &[u8], out: &mut [u8]) -> Result<Opened, Refusal>
     ensures { allows.begin mem.old s.now out.old result mem.new out.new }
 {
     if mem.len() != table::WORDS {
-        return Opened::Refused(1);
+        return Err(Refusal::NoTable);
     }
     if out.len() < LINE {
-        return Opened::Refused(10);
+        return Err(Refusal::NoRoom);
     }
     let start = wanted(s);
     if s.len() < start {
-        return Opened::Closed(lines::put_line(out, REFUSED_IMAGE, &[12]));
+        return Ok(Opened::Closed(lines::put_line(out, REFUSED_IMAGE, &[12])));
     }
-    let outcome = policy::load(mem, &s[HEAD..start]);
-    match outcome {
-        Outcome::Done => Opened::Open(put_counts(mem, out), start),
-        Outcome::Refused(n) => Opened::Closed(lines::put_line(out, REFUSED_IMAGE, &[n])),
+    match policy::load(mem, &s[HEAD..start]) {
+        Ok(()) => Ok(Opened::Open(put_counts(mem, out), start)),
+        Err(refusal) => Ok(Opened::Closed(lines::put_line(
+            out,
+            REFUSED_IMAGE,
+            &[u32::from(refusal)],
+        ))),
     }
 }

@@ -4,7 +4,7 @@
 
 ghost use Rattle.std.specs.Prelude.{◌≡◌, ◌≤◌, length};
 
-use desk::{Opened, Printed};
+use desk::Opened;
 
 // The numbers of standard input and standard output.
 const STDIN_FILENO: i32 = 0;
@@ -17,13 +17,6 @@ const PIECE: usize = 4095;
 // Bytes for the lines of a piece: 64 for each request.
 const LINES: usize = 52416;
 
-// The lesser of two: what was printed is no more than there was room for.
-fn lesser(a: usize, b: usize) -> usize
-    ensures { (result ≤ a) × (result ≤ b) }
-{
-    if a < b { a } else { b }
-}
-
 // Reads the length and the image, no byte beyond. Returns how many bytes there were.
 fn read_image(input: &mut [u8]) -> usize
     requires { length input.old ≡ 65537 }
@@ -31,11 +24,11 @@ fn read_image(input: &mut [u8]) -> usize
 {
     let n = io::read_full(STDIN_FILENO, &mut input[0..2]);
     if n < 2 {
-        return lesser(n, 2);
+        return n.min(2);
     }
     let end = desk::wanted(input);
     let m = io::read_full(STDIN_FILENO, &mut input[2..end]);
-    2 + lesser(m, 65535)
+    2 + m.min(65535)
 }
 
 // Reads the image and prints the first line. Returns whether requests follow.
@@ -43,22 +36,13 @@ fn begin(mem: &mut [u32]) -> bool {
     let mut input = [0u8; 65537];
     let mut out = [0u8; 64];
     let n = read_image(&mut input);
-    let opened = desk::begin(mem, &input[0..n], &mut out);
-    match opened {
-        Opened::Open(k, _) => io::write_all(STDOUT_FILENO, &out[0..lesser(k, 64)]),
-        Opened::Closed(k) => {
-            io::write_all(STDOUT_FILENO, &out[0..lesser(k, 64)]);
+    match desk::begin(mem, &input[0..n], &mut out) {
+        Ok(Opened::Open(k, _)) => io::write_all(STDOUT_FILENO, &out[0..k.min(64)]),
+        Ok(Opened::Closed(k)) => {
+            io::write_all(STDOUT_FILENO, &out[0..k.min(64)]);
             false
         }
-        Opened::Refused(_) => false,
-    }
-}
-
-// How many bytes were printed.
-fn count(printed: Printed) -> usize {
-    match printed {
-        Printed::Length(n) => n,
-        Printed::Refused(_) => 0,
+        Err(_) => false,
     }
 }
 
@@ -67,16 +51,17 @@ fn answer_next(mem: &[u32]) -> usize {
     let mut input = [0u8; PIECE];
     let mut out = [0u8; LINES];
     let n = io::read_full(STDIN_FILENO, &mut input);
-    let printed = desk::answer_all(mem, &input[0..n], &mut out);
-    io::write_all(STDOUT_FILENO, &out[0..lesser(count(printed), LINES)]);
+    let printed = desk::answer_all(mem, &input[0..n], &mut out).unwrap_or(0);
+    io::write_all(STDOUT_FILENO, &out[0..printed.min(LINES)]);
     n
 }
 
-// A proved loop has to end, and nothing says that the input does: the turns are counted down from a number that no run uses up.
+// A proved loop has to end, and nothing says that the input does: the turns are more than any run uses up.
 fn answer_pieces(mem: &[u32]) {
-    let mut turns = u64::MAX;
-    while 0 < turns && answer_next(mem) == PIECE {
-        turns -= 1;
+    for _ in 0..u64::MAX {
+        if answer_next(mem) < PIECE {
+            return;
+        }
     }
 }
 

@@ -3,15 +3,21 @@
 use mathlib.Core.Path.{◌≡◌, sym, ap, ◌∙◌}
 use mathlib.Core.Bool.{Bool, true, false, not}
 use mathlib.Core.List.{List, []}
-use Prim.Native.Nat.{ℕ, ◌-◌, ◌≤◌, ◌<◌}
+use Prim.Native.Nat.{ℕ, ◌-◌, ◌≤◌}
 use native.Mathlib.Omega.{arith}
 use borrow.Author.Tests.{not-true, not-false}
 use lib.ListN.{length, get_or}
 use Rattle.model.specs.Contain.{contained}
-use Rattle.model.specs.Refusal.{Answer, accepted, answer}
-use Rattle.model.specs.Request.{Verdict, grant, deny, verdict}
+use Rattle.model.specs.Refusal.{answer}
+use Rattle.model.specs.Request.{grant, deny, verdict}
 use Rattle.model.specs.Explain.{Explained, explanation}
 use Rattle.model.specs.Calls.{kept}
+use Rattle.std.specs.Prelude.{Result, Err}
+use Rattle.answer.specs.declared.Refusal.{Refusal}
+use Rattle.answer.specs.declared.Refusal.TheVariants.{NoTable}
+use Rattle.answer.specs.Answers as answers
+use Rattle.answer.specs.Answers.{number_of}
+use Rattle.answer.proofs.Told.{number_low, one_told}
 use Rattle.table.specs.View.{holds_table, policy_of, memory}
 use Rattle.table.proofs.Outcomes.{never}
 use Rattle.request.specs.declared.Request.{Request}
@@ -20,11 +26,11 @@ use Rattle.request.specs.Asks.{request_of, refusal_of}
 use Rattle.request.proofs.Accepts.{accepted_known, refused_explanation, accepted_explanation}
 use Rattle.held.specs.Lacking.{sight}
 use Rattle.decide.specs.declared.Decision.{Decision}
-use Rattle.decide.specs.declared.Decision.TheVariants.{Grant as Grants, Deny as Denies, Refused as Refuses}
-use Rattle.decide.specs.Answers.{told as tells}
+use Rattle.decide.specs.declared.Decision.TheVariants.{Grant as Grants, Deny as Denies}
+use Rattle.decide.specs.Answers.{verdict_of}
 use Rattle.explain.specs.declared.Explanation.{Explanation}
-use Rattle.explain.specs.declared.Explanation.TheVariants.{Grant, Deny, Refused}
-use Rattle.explain.specs.Answers.{told, Left, left, explained, explaining}
+use Rattle.explain.specs.declared.Explanation.TheVariants.{Grant, Deny}
+use Rattle.explain.specs.Answers.{explained_by, told, Left, left, explained, explaining}
 use Rattle.explain.proofs.Granted.{grant_small}
 
 -- The alternatives as the code reads them.
@@ -38,14 +44,11 @@ module _ (n : ℕ) {alternatives : List (List ℕ)} (c : alternatives ≡ capabi
   second_read = (omega arith, ap (λ (l : List (List ℕ)). get_or l 1 []) c)
 
 -- What was decided, by the marks of climbs.
-module _ (mem rows : List ℕ) (q : Request) {d : Decision} (e : tells d ≡ accepted (verdict (sight mem rows false) (policy_of mem) (request_of q))) where
+module _ (mem rows : List ℕ) (q : Request) {d : Decision} (e : verdict_of d ≡ verdict (sight mem rows false) (policy_of mem) (request_of q)) where
   -- a grant with k is the verdict's
   pub decided_grant : {k : ℕ} → d ≡ Grants k → verdict (contained (policy_of mem)) (policy_of mem) (request_of q) ≡ grant k
-  unfolding sight tells
-  decided_grant {k} h =
-      let f : tells (Grants k) ≡ tells d = ap tells (sym h) in
-      let g : accepted (grant k) ≡ accepted (verdict (contained (policy_of mem)) (policy_of mem) (request_of q)) = f ∙ e in
-      cc
+  unfolding sight verdict_of
+  decided_grant h = sym e ∙ ap verdict_of h
 
   -- with 1
   pub decided_first : {k : ℕ} → d ≡ Grants k → k ≡ 1 → verdict (contained (policy_of mem)) (policy_of mem) (request_of q) ≡ grant 1
@@ -60,57 +63,45 @@ module _ (mem rows : List ℕ) (q : Request) {d : Decision} (e : tells d ≡ acc
 
   -- so is a deny
   pub decided_deny : d ≡ Denies → verdict (contained (policy_of mem)) (policy_of mem) (request_of q) ≡ deny
-  unfolding sight tells
-  decided_deny h =
-      let f : tells Denies ≡ tells d = ap tells (sym h) in
-      let g : accepted deny ≡ accepted (verdict (contained (policy_of mem)) (policy_of mem) (request_of q)) = f ∙ e in
-      cc
-
-  -- and there is no refusal
-  pub decided_refused : {n : ℕ} → d ≡ Refuses n → (out : List (List ℕ)) → left (Refused n) out ≡ explained (policy_of mem) (request_of q) out
-  unfolding tells
-  decided_refused {n} h out = let f : tells (Refuses n) ≡ tells d = ap tells (sym h) in never (cc)
+  unfolding sight verdict_of
+  decided_deny h = sym e ∙ ap verdict_of h
 
 -- The table, then the request's refusal.
 module _ (mem : List ℕ) (q : Request) (out : List (List ℕ)) {r : Bool} (e : r ≡ holds_table mem) where
   -- there is no table
-  pub explained_no_table : not r ≡ true → left (Refused 1) out ≡ explaining (memory mem) (request_of q) out
-  unfolding told explaining explanation answer kept
+  pub explained_no_table : not r ≡ true → left (Err NoTable) out ≡ explaining (memory mem) (request_of q) out
+  unfolding answers.told explaining explanation answer kept
   explained_no_table h = rw (sym e ∙ not-true r h)
 
-  module _ (h : not r ≡ false) {n : ℕ} (f : n ≡ refusal_of mem q) where
+  module _ (h : not r ≡ false) where
     -- the request is refused
-    pub explained_refusal : 0 < n → left (Refused n) out ≡ explaining (memory mem) (request_of q) out
-    unfolding told explaining kept
-    explained_refusal l = rw (sym e ∙ not-false r h, refused_explanation mem q f l (contained (policy_of mem)) (length out))
+    pub explained_refusal : (s : Refusal) → number_of s ≡ refusal_of mem q → left (Err s) out ≡ explaining (memory mem) (request_of q) out
+    unfolding answers.told explaining kept
+    explained_refusal s f = rw (sym e ∙ not-false r h, refused_explanation mem q f (number_low s) (contained (policy_of mem)) (length out))
 
     -- it is not
-    pub explained_accepted : n ≤ 0 → (d : Explanation) {out' : List (List ℕ)} → left d out' ≡ explained (policy_of mem) (request_of q) out
+    pub explained_accepted : 0 ≡ refusal_of mem q → (d : Result Explanation Refusal) {out' : List (List ℕ)} → left d out' ≡ explained (policy_of mem) (request_of q) out
         → left d out' ≡ explaining (memory mem) (request_of q) out
     unfolding explaining explained
-    explained_accepted l d k =
-        rw (sym e ∙ not-false r h, accepted_explanation (contained (policy_of mem)) (policy_of mem) (request_of q) (accepted_known mem q f l).lines (length out)) k
+    explained_accepted f d k =
+        rw (sym e ∙ not-false r h, accepted_explanation (contained (policy_of mem)) (policy_of mem) (request_of q) (accepted_known mem q f (omega arith)).lines (length out)) k
 
--- two verdicts with their numbers of rows
-same_explained : {v w : Verdict} {m n : ℕ} → ◌≡◌ {A = Answer Explained} (accepted (record { verdict = v; count = m })) (accepted (record { verdict = w; count = n }))
-    → (v ≡ w) × (m ≡ n)
-same_explained {v} {w} {m} {n} e =
-    let a : ◌≡◌ {A = Explained} (record { verdict = v; count = m }) (record { verdict = w; count = n }) = cc in
-    (ap (λ (b : Explained). b.verdict) a, ap (λ (b : Explained). b.count) a)
+-- no two explanations say the same
+one_explained : (d e : Explanation) → explained_by d ≡ explained_by e → d ≡ e
+unfolding explained_by
+one_explained (Grant k m) (Grant j n) e =
+    let v : grant k ≡ grant j = ap (λ (b : Explained). b.verdict) e in
+    let y : k ≡ j = cc in
+    let z : m ≡ n = ap (λ (b : Explained). b.count) e in
+    rw (y, z)
+one_explained (Grant k m) (Deny n) e = let v : grant k ≡ deny = ap (λ (b : Explained). b.verdict) e in never (cc)
+one_explained (Deny m) (Grant j n) e = let v : deny ≡ grant j = ap (λ (b : Explained). b.verdict) e in never (cc)
+one_explained (Deny m) (Deny n) e = ap Deny (ap (λ (b : Explained). b.count) e)
 
 -- no two answers are told the same
-pub one_explanation : (r s : Explanation) → told r ≡ told s → r ≡ s
-unfolding told
-one_explanation (Grant k m) (Grant j n) e = let v = (same_explained e).0 in let y : k ≡ j = cc in let z : m ≡ n = (same_explained e).1 in rw (y, z)
-one_explanation (Grant k m) (Deny n) e = let v = (same_explained e).0 in never (cc)
-one_explanation (Grant k m) (Refused n) e = never (cc)
-one_explanation (Deny m) (Grant j n) e = let v = (same_explained e).0 in never (cc)
-one_explanation (Deny m) (Deny n) e = ap Deny (same_explained e).1
-one_explanation (Deny m) (Refused n) e = never (cc)
-one_explanation (Refused m) (Grant j n) e = never (cc)
-one_explanation (Refused m) (Deny n) e = never (cc)
-one_explanation (Refused m) (Refused n) e = let z : m ≡ n = cc in ap Refused z
+pub one_explanation : (r s : Result Explanation Refusal) → told r ≡ told s → r ≡ s
+one_explanation r s e = one_told explained_by one_explained r s e
 
 -- one answer, and the same rows
-pub one_left : {r s : Explanation} {l m : List (List ℕ)} → left r l ≡ left s m → (r ≡ s) × (l ≡ m)
+pub one_left : {r s : Result Explanation Refusal} {l m : List (List ℕ)} → left r l ≡ left s m → (r ≡ s) × (l ≡ m)
 one_left {r} {s} e = (one_explanation r s (ap (λ (b : Left). b.answers) e), ap (λ (b : Left). b.rows) e)

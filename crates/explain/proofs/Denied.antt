@@ -25,8 +25,11 @@ use Rattle.decide.specs.Asks.{satisfies}
 use Rattle.decide.proofs.Chosen.{satisfies_says}
 use Rattle.denials.specs.Failing.{deny_numbers}
 use Rattle.denials.proofs.DenyRows.{deny_numbers_row}
-use Rattle.explain.specs.declared.Explanation.TheVariants.{Deny, Refused}
-use Rattle.explain.specs.Answers.{told, numbers_of, left, numbers, explained}
+use Rattle.std.specs.Prelude.{Ok, Err}
+use Rattle.answer.specs.declared.Refusal.TheVariants.{NoRoom}
+use Rattle.answer.specs.Answers as answers
+use Rattle.explain.specs.declared.Explanation.TheVariants.{Deny}
+use Rattle.explain.specs.Answers.{explained_by, numbers_of, left, numbers, explained}
 use Rattle.explain.proofs.Filled.{too_few, filled, set_one, set_two}
 
 -- what stands at a place of a list is in it
@@ -116,15 +119,15 @@ module _ {mem : List ℕ} {q : Request} {user : ℕ} {alternatives : List (List 
         ∙ ap (λ (l : List ℕ). deny_numbers (policy_of mem) q user 1 l ∷ []) (sym firsts)
 
     -- no row is lent
-    pub one_refused : (out : List (List ℕ)) → length out < 1 → left (Refused 10) out ≡ explained (policy_of mem) (request_of q) out
+    pub one_refused : (out : List (List ℕ)) → length out < 1 → left (Err NoRoom) out ≡ explained (policy_of mem) (request_of q) out
     one_refused out h = too_few (policy_of mem) (request_of q) out one_row h
 
     -- the row is written
     pub one_filled : (out : List (List ℕ)) → 1 ≤ length out → {a : List ℕ} → a ≡ deny_numbers (policy_of mem) q user 1 (get_or alternatives 0 [])
-        → left (Deny 1) (set out 0 a) ≡ explained (policy_of mem) (request_of q) out
-    unfolding told
+        → left (Ok (Deny 1)) (set out 0 a) ≡ explained (policy_of mem) (request_of q) out
+    unfolding answers.told explained_by
     one_filled out h {a} e =
-        filled (policy_of mem) (request_of q) out (one_row ∙ ap (λ (b : List ℕ). b ∷ []) (sym e)) h (Deny 1) (rw v) (set_one out a h)
+        filled (policy_of mem) (request_of q) out (one_row ∙ ap (λ (b : List ℕ). b ∷ []) (sym e)) h (Ok (Deny 1)) (rw v) (set_one out a h)
 
   -- There is one.
   module _ (d : get_or (get_or alternatives 1 []) 0 0 ≡ 0 → ⊥) where
@@ -147,12 +150,12 @@ module _ {mem : List ℕ} {q : Request} {user : ℕ} {alternatives : List (List 
         ∙ ap₂ (λ (l m : List ℕ). deny_numbers (policy_of mem) q user 1 l ∷ deny_numbers (policy_of mem) q user 2 m ∷ []) (sym firsts) (sym seconds)
 
     -- fewer rows are lent
-    pub two_refused : (out : List (List ℕ)) → length out < 2 → left (Refused 10) out ≡ explained (policy_of mem) (request_of q) out
+    pub two_refused : (out : List (List ℕ)) → length out < 2 → left (Err NoRoom) out ≡ explained (policy_of mem) (request_of q) out
     two_refused out h = too_few (policy_of mem) (request_of q) out two_rows h
 
     -- both rows are written
     pub two_filled : (out : List (List ℕ)) → 2 ≤ length out → {a b : List ℕ} → a ≡ deny_numbers (policy_of mem) q user 1 (get_or alternatives 0 [])
-        → b ≡ deny_numbers (policy_of mem) q user 2 (get_or alternatives 1 []) → left (Deny 2) (set (set out 0 a) 1 b) ≡ explained (policy_of mem) (request_of q) out
-    unfolding told
+        → b ≡ deny_numbers (policy_of mem) q user 2 (get_or alternatives 1 []) → left (Ok (Deny 2)) (set (set out 0 a) 1 b) ≡ explained (policy_of mem) (request_of q) out
+    unfolding answers.told explained_by
     two_filled out h {a} {b} e f =
-        filled (policy_of mem) (request_of q) out (two_rows ∙ ap₂ (λ (x y : List ℕ). x ∷ y ∷ []) (sym e) (sym f)) h (Deny 2) (rw v) (set_two out a b h)
+        filled (policy_of mem) (request_of q) out (two_rows ∙ ap₂ (λ (x y : List ℕ). x ∷ y ∷ []) (sym e) (sym f)) h (Ok (Deny 2)) (rw v) (set_two out a b h)

@@ -12,8 +12,11 @@ use Rattle.model.specs.Refusal.{accepted, answer}
 use Rattle.model.specs.Request.{Request as Asks, verdict}
 use Rattle.model.specs.Explain.{rows}
 use Rattle.model.specs.Calls.{kept, over}
+use Rattle.std.specs.Prelude.{Result, Err}
+use Rattle.answer.specs.declared.Refusal.{Refusal}
+use Rattle.answer.specs.declared.Refusal.TheVariants.{NoRoom}
+use Rattle.answer.specs.Answers as answers
 use Rattle.explain.specs.declared.Explanation.{Explanation}
-use Rattle.explain.specs.declared.Explanation.TheVariants.{Refused}
 use Rattle.explain.specs.Answers.{told, numbers_of, left, numbers, explained}
 
 -- there are as many rows of numbers as rows
@@ -28,12 +31,12 @@ module _ (p : Policy) (q : Asks) (room : List (List ℕ)) {l : List (List ℕ)} 
   rows_length = sym (numbers_length p q) ∙ ap length e
 
   -- they are more than the lent rows: refused with 10, and nothing is written
-  pub too_few : length room < length l → left (Refused 10) room ≡ explained p q room
-  unfolding told explained answer kept
+  pub too_few : length room < length l → left (Err NoRoom) room ≡ explained p q room
+  unfolding answers.told explained answer kept
   too_few h = rw (rows_length, lt-ltb (length room) (length l) h)
 
   -- they have room: the answer is the verdict with their number, and they stand over the lent rows
-  pub filled : length l ≤ length room → (r : Explanation) → told r ≡ accepted (record { verdict = verdict (contained p) p q; count = length l })
+  pub filled : length l ≤ length room → (r : Result Explanation Refusal) → told r ≡ accepted (record { verdict = verdict (contained p) p q; count = length l })
       → {out : List (List ℕ)} → out ≡ over l room → left r out ≡ explained p q room
   unfolding explained answer kept
   filled h r t o = rw (rows_length, le-ltb (length room) (length l) h, t, o, e)

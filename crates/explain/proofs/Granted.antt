@@ -23,8 +23,11 @@ use Rattle.grants.specs.Put.{Put}
 use Rattle.grants.proofs.Counted.{grant_length_alike}
 use Rattle.grants.proofs.Granted.{grant_numbers_lem}
 use Rattle.grants.proofs.Placed.{put_over}
-use Rattle.explain.specs.declared.Explanation.TheVariants.{Grant, Refused}
-use Rattle.explain.specs.Answers.{told, left, numbers, explained}
+use Rattle.std.specs.Prelude.{Ok, Err}
+use Rattle.answer.specs.declared.Refusal.TheVariants.{NoRoom}
+use Rattle.answer.specs.Answers as answers
+use Rattle.explain.specs.declared.Explanation.TheVariants.{Grant}
+use Rattle.explain.specs.Answers.{explained_by, left, numbers, explained}
 use Rattle.explain.proofs.Filled.{too_few, filled}
 
 -- a grant names alternative 1 or alternative 2
@@ -59,7 +62,7 @@ module _ (mem : List ℕ) (q : Request) {user alternative : ℕ} {sets : List �
     counted = c.is ∙ sym (grant_length_alike (policy_of mem) q user alternative sets)
 
     -- the lent rows are too few
-    pub grant_refused : (out : List (List ℕ)) → length out < n → left (Refused 10) out ≡ explained (policy_of mem) (request_of q) out
+    pub grant_refused : (out : List (List ℕ)) → length out < n → left (Err NoRoom) out ≡ explained (policy_of mem) (request_of q) out
     grant_refused out h = too_few (policy_of mem) (request_of q) out granted_numbers (omega (arith, counted))
 
     -- they have room
@@ -68,7 +71,7 @@ module _ (mem : List ℕ) (q : Request) {user alternative : ℕ} {sets : List �
 
     -- and are written
     pub grant_filled : {out out' : List (List ℕ)} {t : ℕ} → n ≤ length out → Put out 0 (grant_numbers (policy_of mem) q user alternative sets) out' t
-        → left (Grant alternative n) out' ≡ explained (policy_of mem) (request_of q) out
-    unfolding told
+        → left (Ok (Grant alternative n)) out' ≡ explained (policy_of mem) (request_of q) out
+    unfolding answers.told explained_by
     grant_filled {out} {out'} h w =
-        filled (policy_of mem) (request_of q) out granted_numbers (grant_fits out h) (Grant alternative n) (rw (v, counted)) (put_over w (grant_fits out h))
+        filled (policy_of mem) (request_of q) out granted_numbers (grant_fits out h) (Ok (Grant alternative n)) (rw (v, counted)) (put_over w (grant_fits out h))

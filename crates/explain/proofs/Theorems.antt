@@ -21,6 +21,10 @@ use Rattle.model.proofs.Decisions.Answers.{explained_refused, explained_as_decid
 use Rattle.model.proofs.Decisions.Rows.{denied_rows, granted_rise, granted_says, granted_have, granted_named}
 use Rattle.model.proofs.Decisions.Denied.{deny_rows_count, deny_row_first}
 use Rattle.model.proofs.Decisions.Cause.{cause_says}
+use Rattle.std.specs.Prelude.{Result, Ok, Err}
+use Rattle.answer.specs.declared.Refusal.{Refusal}
+use Rattle.answer.specs.declared.Refusal.TheVariants.{NoRoom}
+use Rattle.answer.specs.Answers as answers
 use Rattle.table.specs.View.{holds_table, policy_of, memory}
 use Rattle.table.proofs.Outcomes.{never}
 use Rattle.table.proofs.ById.{elements_rise}
@@ -29,17 +33,16 @@ use Rattle.request.specs.Asks.{request_of, Accepted}
 use Rattle.request.proofs.Operations.{some_alternative}
 use Rattle.request.proofs.Accepts.{none_known, operation_some}
 use Rattle.decide.specs.declared.Decision.{Decision}
-use Rattle.decide.specs.declared.Decision.TheVariants.{Grant as Grants, Deny as Denies, Refused as Refuses}
-use Rattle.decide.specs.Answers.{told as tells}
+use Rattle.decide.specs.Answers.{verdict_of, told as tells}
 use Rattle.explain.specs.declared.Explanation.{Explanation}
-use Rattle.explain.specs.declared.Explanation.TheVariants.{Grant, Deny, Refused}
+use Rattle.explain.specs.declared.Explanation.TheVariants.{Grant, Deny}
 use Rattle.explain.specs.Results.{first_why, AsDecided, Written, RowsExact, GrantRows, DenyRows}
-use Rattle.explain.specs.Answers.{told, numbers_of, Left, left, numbers, explaining}
+use Rattle.explain.specs.Answers.{explained_by, told, numbers_of, Left, left, numbers, explaining}
 use Rattle.explain.proofs.Filled.{numbers_length}
 use Rattle.explain.proofs.Answered.{one_explanation, one_left}
 
 -- the explanation's contract allows one result: two results that are told the same and leave the same rows are the same
-pub unique : {r s : Explanation} {l m : List (List ℕ)} → left r l ≡ left s m → (r ≡ s) × (l ≡ m)
+pub unique : {r s : Result Explanation Refusal} {l m : List (List ℕ)} → left r l ≡ left s m → (r ≡ s) × (l ≡ m)
 unique = one_left
 
 -- 10 is the number of an explanation's last line alone
@@ -58,11 +61,10 @@ request_none : (W : ℕ → ℕ → Bool) (holds : Bool) (room : ℕ) (p : Polic
 request_none W holds room p q (past a (past b (past c (past d (past e end))))) = (not-false holds a, past refl (past b (past c (past d end))))
 
 -- a decision that is no refusal is told as a verdict
-decides : (d : Decision) → ((n : ℕ) → d ≡ Refuses n → ⊥) → (v : Verdict) × (tells d ≡ accepted v)
-unfolding tells
-decides (Grants k) h = (grant k, refl)
-decides Denies h = (deny, refl)
-decides (Refuses n) h = absurd (h n refl)
+decides : (d : Result Decision Refusal) → ((x : Refusal) → d ≡ Err x → ⊥) → (v : Verdict) × (tells d ≡ accepted v)
+unfolding answers.told
+decides (Ok v) h = (verdict_of v, refl)
+decides (Err x) h = absurd (h x refl)
 
 -- where the rows stand first they are those of the first row
 printed : (l : List Row) (behind : List (List ℕ)) → 1 ≤ length l → line D (first_why (map numbers_of l ++ behind)) ≡ deny_line l
@@ -71,7 +73,7 @@ printed [] behind h = absurd (omega arith)
 printed (row ∷ l) behind h = refl
 
 -- Any result that the contract allows, on any memory, any request and any lent rows.
-module _ (mem : List ℕ) (q : Request) (out out' : List (List ℕ)) (r : Explanation) (e : left r out' ≡ explaining (memory mem) (request_of q) out) where
+module _ (mem : List ℕ) (q : Request) (out out' : List (List ℕ)) (r : Result Explanation Refusal) (e : left r out' ≡ explaining (memory mem) (request_of q) out) where
   -- what it answers
   answered : told r ≡ explanation (contained (policy_of mem)) (holds_table mem) (length out) (policy_of mem) (request_of q)
   unfolding explaining
@@ -107,25 +109,25 @@ module _ (mem : List ℕ) (q : Request) (out out' : List (List ℕ)) (r : Explan
 
   -- where the explanation is accepted the first rows are the rows of the request and the others are as they were; where it is refused all are
   pub rows_exact : RowsExact r (numbers (policy_of mem) (request_of q)) out out'
-  unfolding told kept
+  unfolding answers.told explained_by kept
   rows_exact = record {
     granted = λ k n h. accepted_written (ap told h);
     denied = λ n h. accepted_written (ap told h);
-    refused = λ n h. rw (ap told h) at leaves;
+    refused = λ x h. rw (ap told h) at leaves;
   }
 
   -- a grant's verdict
-  grant_verdict : {k n : ℕ} → r ≡ Grant k n → verdict (contained (policy_of mem)) (policy_of mem) (request_of q) ≡ grant k
-  unfolding told
+  grant_verdict : {k n : ℕ} → r ≡ Ok (Grant k n) → verdict (contained (policy_of mem)) (policy_of mem) (request_of q) ≡ grant k
+  unfolding answers.told explained_by
   grant_verdict h = sym (ap (λ (a : Explained). a.verdict) (accepted_is (ap told h)).1)
 
   -- a deny's
-  deny_verdict : {n : ℕ} → r ≡ Deny n → verdict (contained (policy_of mem)) (policy_of mem) (request_of q) ≡ deny
-  unfolding told
+  deny_verdict : {n : ℕ} → r ≡ Ok (Deny n) → verdict (contained (policy_of mem)) (policy_of mem) (request_of q) ≡ deny
+  unfolding answers.told explained_by
   deny_verdict h = sym (ap (λ (a : Explained). a.verdict) (accepted_is (ap told h)).1)
 
   -- the rows of a grant are those that 01 says
-  pub grant_rows_exact : {k n : ℕ} → r ≡ Grant k n → GrantRows (policy_of mem) (request_of q) k
+  pub grant_rows_exact : {k n : ℕ} → r ≡ Ok (Grant k n) → GrantRows (policy_of mem) (request_of q) k
   grant_rows_exact h =
       let g = grant_says (contained (policy_of mem)) (policy_of mem) (request_of q) (grant_verdict h) in
       record {
@@ -137,7 +139,7 @@ module _ (mem : List ℕ) (q : Request) (out out' : List (List ℕ)) (r : Explan
       }
 
   -- the rows of a deny are those that 01 says
-  pub deny_rows_exact : {n : ℕ} → r ≡ Deny n → DenyRows (policy_of mem) (request_of q)
+  pub deny_rows_exact : {n : ℕ} → r ≡ Ok (Deny n) → DenyRows (policy_of mem) (request_of q)
   unfolding deny_row
   deny_rows_exact h =
       let v = deny_verdict h in
@@ -150,9 +152,9 @@ module _ (mem : List ℕ) (q : Request) (out out' : List (List ℕ)) (r : Explan
       }
 
   -- on a deny the first row's argument, right, cause and number are those of the line that the desk program prints
-  pub first_deny_row : {n : ℕ} → r ≡ Deny n
+  pub first_deny_row : {n : ℕ} → r ≡ Ok (Deny n)
       → line D (first_why out') ≡ deny_line (rows (contained (policy_of mem)) (policy_of mem) (request_of q))
-  unfolding told kept numbers
+  unfolding answers.told explained_by kept numbers
   first_deny_row h =
       let a = accepted_is (ap told h) in
       let k : Accepted mem q = none_known mem q (request_none (contained (policy_of mem)) (holds_table mem) (length out) (policy_of mem) (request_of q) a.0).1 in
@@ -162,12 +164,12 @@ module _ (mem : List ℕ) (q : Request) (out out' : List (List ℕ)) (r : Explan
       rw o (printed (rows (contained (policy_of mem)) (policy_of mem) (request_of q)) (drop (length (numbers (policy_of mem) (request_of q))) out) (omega (arith, s, c)))
 
   -- a result that is told as the explanation is, is the result
-  it_is : (s : Explanation) → explanation (contained (policy_of mem)) (holds_table mem) (length out) (policy_of mem) (request_of q) ≡ told s → r ≡ s
+  it_is : (s : Result Explanation Refusal) → explanation (contained (policy_of mem)) (holds_table mem) (length out) (policy_of mem) (request_of q) ≡ told s → r ≡ s
   it_is s f = one_explanation r s (answered ∙ f)
 
   -- where it is 10 the line of 10 is the first that holds
-  ten : r ≡ Refused 10 → First 10 (explain_lines (contained (policy_of mem)) (holds_table mem) (length out) (policy_of mem) (request_of q))
-  unfolding told explanation
+  ten : r ≡ Err NoRoom → First 10 (explain_lines (contained (policy_of mem)) (holds_table mem) (length out) (policy_of mem) (request_of q))
+  unfolding answers.told explanation
   ten h = refused_first _ (explain_lines (contained (policy_of mem)) (holds_table mem) (length out) (policy_of mem) (request_of q)) (sym answered ∙ ap told h)
 
   -- where none of the request's lines holds, the decision is the verdict
@@ -177,18 +179,18 @@ module _ (mem : List ℕ) (q : Request) (out out' : List (List ℕ)) (r : Explan
   decided n = none_accepted (verdict (contained (policy_of mem)) (policy_of mem) (request_of q)) n
 
   -- the explanation answers as the decision does, but for 10, which it answers exactly where the decision is no refusal and the lent rows are too few
-  pub as_decided : (d : Decision) → tells d ≡ decide (memory mem) (request_of q) → AsDecided d (length out) needed r
-  unfolding told tells decide
+  pub as_decided : (d : Result Decision Refusal) → tells d ≡ decide (memory mem) (request_of q) → AsDecided d (length out) needed r
+  unfolding answers.told explained_by verdict_of decide
   as_decided d f = record {
-    refuses = λ n h. it_is (Refused n) (explained_refused (contained (policy_of mem)) (holds_table mem) (length out) (policy_of mem) (request_of q) (sym f ∙ ap tells h));
-    grants = λ k h l. it_is (Grant k needed) (explained_as_decided (contained (policy_of mem)) (holds_table mem) (length out) (policy_of mem) (request_of q) (sym f ∙ ap tells h) l);
-    denies = λ h l. it_is (Deny needed) (explained_as_decided (contained (policy_of mem)) (holds_table mem) (length out) (policy_of mem) (request_of q) (sym f ∙ ap tells h) l);
+    refuses = λ n h. it_is (Err n) (explained_refused (contained (policy_of mem)) (holds_table mem) (length out) (policy_of mem) (request_of q) (sym f ∙ ap tells h));
+    grants = λ k h l. it_is (Ok (Grant k needed)) (explained_as_decided (contained (policy_of mem)) (holds_table mem) (length out) (policy_of mem) (request_of q) (sym f ∙ ap tells h) l);
+    denies = λ h l. it_is (Ok (Deny needed)) (explained_as_decided (contained (policy_of mem)) (holds_table mem) (length out) (policy_of mem) (request_of q) (sym f ∙ ap tells h) l);
     too_few = (
       λ h.
           let l = last_line (contained (policy_of mem)) (holds_table mem) (length out) (policy_of mem) (request_of q) (ten h) in
-          (λ n k. let z : refused n ≡ accepted (verdict (contained (policy_of mem)) (policy_of mem) (request_of q)) = ap tells (sym k) ∙ f ∙ decided l.0 in never (cc), l.1),
+          (λ n k. let z : refused (answers.number_of n) ≡ accepted (verdict (contained (policy_of mem)) (policy_of mem) (request_of q)) = ap tells (sym k) ∙ f ∙ decided l.0 in never (cc), l.1),
       λ h.
           let v = decides d h.0 in
-          it_is (Refused 10) (explained_too_few (contained (policy_of mem)) (holds_table mem) (length out) (policy_of mem) (request_of q) (sym f ∙ v.1) h.1),
+          it_is (Err NoRoom) (explained_too_few (contained (policy_of mem)) (holds_table mem) (length out) (policy_of mem) (request_of q) (sym f ∙ v.1) h.1),
     );
   }

@@ -1,21 +1,26 @@
 -- What the explanation answers and leaves, its rows as numbers.
 -- Assumes nothing.
-use Rattle.std.specs.Prelude.{List, [], ◌∷◌, map, ℕ, length, ltb}
+use Rattle.std.specs.Prelude.{Result, List, [], ◌∷◌, map, ℕ, length, ltb}
 use Rattle.model.specs.Policy.{Policy}
 use Rattle.model.specs.Contain.{contained}
-use Rattle.model.specs.Refusal.{◌when◌, Answer, refused, accepted, answer}
+use Rattle.model.specs.Refusal.{◌when◌, Answer, answer}
 use Rattle.model.specs.Lists.{one}
 use Rattle.model.specs.Request.{Request as Asks, grant, deny, verdict}
 use Rattle.model.specs.Explain.{Row, rows, Explained, explanation}
 use Rattle.model.specs.Calls.{Memory, kept, over}
+use Rattle.answer.specs.declared.Refusal.{Refusal}
+use Rattle.answer.specs.Answers as answers
 use Rattle.explain.specs.declared.Explanation.{Explanation}
-use Rattle.explain.specs.declared.Explanation.TheVariants.{Grant, Deny, Refused}
+use Rattle.explain.specs.declared.Explanation.TheVariants.{Grant, Deny}
 
--- `Grant`: granted, by the alternative with this number, with this many rows; `Deny`: denied, with this many rows; `Refused`: the refusal number
-unfoldable pub told : Explanation → Answer Explained
-told (Grant k n) = accepted (record { verdict = grant k; count = n })
-told (Deny n) = accepted (record { verdict = deny; count = n })
-told (Refused n) = refused n
+-- `Grant`: granted, by the alternative with this number, with this many rows; `Deny`: denied, with this many rows
+unfoldable pub explained_by : Explanation → Explained
+explained_by (Grant k n) = record { verdict = grant k; count = n }
+explained_by (Deny n) = record { verdict = deny; count = n }
+
+-- `Ok`: what was explained; `Err`: the refusal's number
+abbrev pub told : Result Explanation Refusal → Answer Explained
+told r = answers.told explained_by r
 
 -- the numbers of a row, in their order
 abbrev pub numbers_of : Row → List ℕ
@@ -27,7 +32,7 @@ pub record Left : Type 0 where
   pub rows : List (List ℕ)
 
 -- the same of what the code answers and leaves
-abbrev pub left : Explanation → (rows : List (List ℕ)) → Left
+abbrev pub left : Result Explanation Refusal → (rows : List (List ℕ)) → Left
 left r rows = record { answers = told r; rows = rows }
 
 -- the rows that a request has, as numbers

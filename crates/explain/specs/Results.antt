@@ -1,7 +1,7 @@
 -- What is claimed of every result of the explanation, in the words of 01: its answer beside the decision's, the lent rows afterwards, and what the
 -- rows of a grant and of a deny are.
 -- Assumes nothing.
-use Rattle.std.specs.Prelude.{◌≡◌, true, List, [], ◌∷◌, ◌↔◌, ℕ, ◌+◌, ◌≤◌, ◌<◌, length, get_or, take, drop}
+use Rattle.std.specs.Prelude.{◌≡◌, Result, Ok, Err, true, List, [], ◌∷◌, ◌↔◌, ℕ, ◌+◌, ◌≤◌, ◌<◌, length, get_or, take, drop}
 use Rattle.model.specs.Lists.{In, rising}
 use Rattle.model.specs.Policy.{Policy}
 use Rattle.model.specs.Contain.{contained}
@@ -9,18 +9,20 @@ use Rattle.model.specs.Request.{Request as Asks, alternatives_of}
 use Rattle.model.specs.Explain.{Row, rows}
 use Rattle.model.specs.Decided.{Told, Lowest}
 use Rattle.model.specs.RowRule.{row_place, GrantRowOf, LowestNamed, DenyRowOf, Why}
+use Rattle.answer.specs.declared.Refusal.{Refusal}
+use Rattle.answer.specs.declared.Refusal.TheVariants.{NoRoom}
 use Rattle.decide.specs.declared.Decision.{Decision}
-use Rattle.decide.specs.declared.Decision.TheVariants.{Grant as Grants, Deny as Denies, Refused as Refuses}
+use Rattle.decide.specs.declared.Decision.TheVariants.{Grant as Grants, Deny as Denies}
 use Rattle.explain.specs.declared.Explanation.{Explanation}
-use Rattle.explain.specs.declared.Explanation.TheVariants.{Grant, Deny, Refused}
+use Rattle.explain.specs.declared.Explanation.TheVariants.{Grant, Deny}
 
 -- the explanation r answers as the decision d does, where `room` rows are lent and `count` are needed: refused alike, granted by the same
 -- alternative and denied alike, with the number of rows; and 10 exactly if the decision is no refusal and the lent rows are too few
-pub record AsDecided (d : Decision) (room count : ℕ) (r : Explanation) : Type 0 where
-  pub refuses : (n : ℕ) → d ≡ Refuses n → r ≡ Refused n
-  pub grants : (k : ℕ) → d ≡ Grants k → count ≤ room → r ≡ Grant k count
-  pub denies : d ≡ Denies → count ≤ room → r ≡ Deny count
-  pub too_few : (r ≡ Refused 10) ↔ (((n : ℕ) → d ≡ Refuses n → ⊥) × (room < count))
+pub record AsDecided (d : Result Decision Refusal) (room count : ℕ) (r : Result Explanation Refusal) : Type 0 where
+  pub refuses : (x : Refusal) → d ≡ Err x → r ≡ Err x
+  pub grants : (k : ℕ) → d ≡ Ok (Grants k) → count ≤ room → r ≡ Ok (Grant k count)
+  pub denies : d ≡ Ok Denies → count ≤ room → r ≡ Ok (Deny count)
+  pub too_few : (r ≡ Err NoRoom) ↔ (((x : Refusal) → d ≡ Err x → ⊥) × (room < count))
 
 -- the lent rows afterwards: the first n are the rows that are written, the others are as they were
 pub record Written (written room out : List (List ℕ)) (n : ℕ) : Type 0 where
@@ -29,10 +31,10 @@ pub record Written (written room out : List (List ℕ)) (n : ℕ) : Type 0 where
   pub others : drop n out ≡ drop n room
 
 -- where r is accepted its rows are written and the others are as they were; where it is refused all rows are as they were
-pub record RowsExact (r : Explanation) (written room out : List (List ℕ)) : Type 0 where
-  pub granted : (k n : ℕ) → r ≡ Grant k n → Written written room out n
-  pub denied : (n : ℕ) → r ≡ Deny n → Written written room out n
-  pub refused : (n : ℕ) → r ≡ Refused n → out ≡ room
+pub record RowsExact (r : Result Explanation Refusal) (written room out : List (List ℕ)) : Type 0 where
+  pub granted : (k n : ℕ) → r ≡ Ok (Grant k n) → Written written room out n
+  pub denied : (n : ℕ) → r ≡ Ok (Deny n) → Written written room out n
+  pub refused : (x : Refusal) → r ≡ Err x → out ≡ room
 
 module _ (p : Policy) (q : Asks) where
   -- "Grant: one row for each argument, right and containing class, all rising, with the lowest authorizing association": the rows of

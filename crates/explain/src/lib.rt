@@ -13,15 +13,15 @@ ghost use Rattle.request.specs.Asks.{request_of, Accepted};
 ghost use Rattle.decide.specs.Asks.{AllRows};
 ghost use Rattle.explain.specs.Answers.{left, explained, explaining};
 
-use decide::Decision;
+use answer::Refusal;
+use decide::{Climbed, Decision};
 use request::Request;
 
-// What the explanation answers: the alternative that grants and the number of rows, or the number of rows of a deny, or a refusal.
+// What the explanation of a request that is not refused answers: the alternative that grants and the number of rows, or the number of rows of a deny.
 #[derive(Clone, Copy)]
 pub enum Explanation {
     Grant(u32, u32),
     Deny(u32),
-    Refused(u32),
 }
 
 // Explains a grant: 10 and nothing written where the rows are too few.
@@ -33,7 +33,7 @@ fn explain_grant(
     alternative: u32,
     sets: [u32; 3],
     out: &mut [[u32; 8]],
-) -> Explanation
+) -> Result<Explanation, Refusal>
     requires table { Table mem.now }
     requires accepted { Accepted mem.now q }
     requires all_rows { AllRows mem.now rows.now false q user }
@@ -44,10 +44,10 @@ fn explain_grant(
 {
     let n = grants::count_rows(mem, rows, q, user, sets);
     if out.len() < n {
-        return Explanation::Refused(10);
+        return Err(Refusal::NoRoom);
     }
     grants::put_rows(mem, rows, q, user, alternative, sets, out);
-    Explanation::Grant(alternative, n as u32)
+    Ok(Explanation::Grant(alternative, n as u32))
 }
 
 // Explains a deny: a row for each alternative; 10 and nothing written where the rows are too few.
@@ -58,7 +58,7 @@ fn explain_deny(
     user: u32,
     alternatives: [[u32; 3]; 2],
     out: &mut [[u32; 8]],
-) -> Explanation
+) -> Result<Explanation, Refusal>
     requires table { Table mem.now }
     requires accepted { Accepted mem.now q }
     requires all_rows { AllRows mem.now rows.now false q user }
@@ -70,21 +70,21 @@ fn explain_deny(
     let second = alternatives[1];
     if second[0] == 0 {
         if out.len() < 1 {
-            return Explanation::Refused(10);
+            return Err(Refusal::NoRoom);
         }
         out[0] = denials::deny_row(mem, rows, q, user, 1, alternatives[0]);
-        return Explanation::Deny(1);
+        return Ok(Explanation::Deny(1));
     }
     if out.len() < 2 {
-        return Explanation::Refused(10);
+        return Err(Refusal::NoRoom);
     }
     out[0] = denials::deny_row(mem, rows, q, user, 1, alternatives[0]);
     out[1] = denials::deny_row(mem, rows, q, user, 2, second);
-    Explanation::Deny(2)
+    Ok(Explanation::Deny(2))
 }
 
 // Explains a request that is not refused.
-fn explain_accepted(mem: &[u32], q: Request, out: &mut [[u32; 8]]) -> Explanation
+fn explain_accepted(mem: &[u32], q: Request, out: &mut [[u32; 8]]) -> Result<Explanation, Refusal>
     requires table { Table mem.now }
     requires accepted { Accepted mem.now q }
     ensures { left result out.new ≡ explained (policy_of mem.now) (request_of q) out.old }
@@ -92,7 +92,7 @@ fn explain_accepted(mem: &[u32], q: Request, out: &mut [[u32; 8]]) -> Explanatio
     let user = table::user_of(mem, q.process);
     let rows = decide::climb_rows(mem, q, user);
     let alternatives = request::required(q.operation);
-    let decision = decide::choose(mem, &rows, false, q, user, alternatives);
+    let decision = decide::choose(mem, &Climbed { rows: &rows }, q, user, alternatives);
     match decision {
         Decision::Grant(k) => {
             if k == 1 {
@@ -101,20 +101,20 @@ fn explain_accepted(mem: &[u32], q: Request, out: &mut [[u32; 8]]) -> Explanatio
             explain_grant(mem, &rows, q, user, 2, alternatives[1], out)
         }
         Decision::Deny => explain_deny(mem, &rows, q, user, alternatives, out),
-        Decision::Refused(n) => Explanation::Refused(n),
     }
 }
 
 // The explanation, with rows of eight numbers. Rows beyond the count keep their contents.
-pub fn explain_numbers(mem: &[u32], q: Request, out: &mut [[u32; 8]]) -> Explanation
+pub fn explain_numbers(
+    mem: &[u32],
+    q: Request,
+    out: &mut [[u32; 8]],
+) -> Result<Explanation, Refusal>
     ensures { left result out.new ≡ explaining (memory mem.now) (request_of q) out.old }
 {
     if !table::holds(mem) {
-        return Explanation::Refused(1);
+        return Err(Refusal::NoTable);
     }
-    let number = request::refusal(mem, q);
-    if 0 < number {
-        return Explanation::Refused(number);
-    }
+    request::refusal(mem, q)?;
     explain_accepted(mem, q, out)
 }

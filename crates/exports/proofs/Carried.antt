@@ -10,24 +10,24 @@ use Rattle.model.specs.Command.{Command}
 use Rattle.model.specs.Calls.{Building, Saving}
 use Rattle.table.specs.View.{policy_of}
 use Rattle.table.specs.Answers.{told, Left, left}
-use Rattle.table.specs.declared.Outcome.{Outcome}
-use Rattle.table.specs.declared.Outcome.TheVariants.{Done, Refused}
+use Rattle.std.specs.Prelude.{Result, Ok, Err}
+use Rattle.answer.specs.declared.Refusal.{Refusal}
+use Rattle.answer.specs.Answers as answers
 use Rattle.command.specs.Commanded.{Commanded}
 use Rattle.index.specs.Answers.{left as left_index}
 use Rattle.image.specs.Answers.{saved, left as left_bytes}
-use Rattle.image.specs.declared.Saved.{Saved}
 use Rattle.explain.specs.Answers.{told as told_explained, Left as LeftRows, left as left_rows}
 use Rattle.explain.specs.declared.Explanation.{Explanation}
 use Rattle.exports.specs.Codes.{code, decision_code, yes_code, save_code, explain_code, Coded}
 
 -- the code of an outcome does not depend on what the call made
-pub code_told : {A B : Type 0} (r : Outcome) (a : A) (b : B) → code (told r a) ≡ code (told r b)
-unfolding code told
-code_told Done a b = refl
-code_told (Refused n) a b = refl
+pub code_told : {A B : Type 0} (r : Result (Unit {0}) Refusal) (a : A) (b : B) → code (told r a) ≡ code (told r b)
+unfolding code answers.told
+code_told (Ok x) a b = refl
+code_told (Err x) a b = refl
 
 -- what a command does, with its outcome as a number: one law for all eleven
-pub coded : {mem idx : List ℕ} {c : Command} {r : Outcome} {mem' idx' : List ℕ} {n : ℕ}
+pub coded : {mem idx : List ℕ} {c : Command} {r : Result (Unit {0}) Refusal} {mem' idx' : List ℕ} {n : ℕ}
     → Commanded mem idx c r mem' idx' → n ≡ code (told r r) → Coded mem idx c n mem' idx'
 coded {r = r} {mem' = mem'} k e = record {
   code_is = e ∙ code_told r r (policy_of mem') ∙ ap code k.answers;
@@ -36,7 +36,7 @@ coded {r = r} {mem' = mem'} k e = record {
 }
 
 -- a call that changes the working memory
-module _ (r : Outcome) {l : List ℕ} {t : Left} (k : left r l ≡ t) where
+module _ (r : Result (Unit {0}) Refusal) {l : List ℕ} {t : Left} (k : left r l ≡ t) where
   -- the code of its outcome is the code of what it is to answer
   pub words_code : {n : ℕ} → n ≡ code (told r r) → n ≡ code t.answers
   words_code e = e ∙ code_told r r l ∙ ap (λ (b : Left). code b.answers) k
@@ -46,7 +46,7 @@ module _ (r : Outcome) {l : List ℕ} {t : Left} (k : left r l ≡ t) where
   words_left = ap (λ (b : Left). b.words) k
 
 -- building the index
-module _ (r : Outcome) {l : List ℕ} {t : Building} (k : left_index r l ≡ t) where
+module _ (r : Result (Unit {0}) Refusal) {l : List ℕ} {t : Building} (k : left_index r l ≡ t) where
   -- the code of its outcome is the code of what it is to answer
   pub index_code : {n : ℕ} → n ≡ code (told r r) → n ≡ code t.answers
   index_code e = e ∙ code_told r r l ∙ ap (λ (b : Building). code b.answers) k
@@ -56,7 +56,7 @@ module _ (r : Outcome) {l : List ℕ} {t : Building} (k : left_index r l ≡ t) 
   index_left = ap (λ (b : Building). b.index) k
 
 -- a save
-module _ (r : Saved) {l : List ℕ} {t : Saving} (k : left_bytes r l ≡ t) where
+module _ (r : Result ℕ Refusal) {l : List ℕ} {t : Saving} (k : left_bytes r l ≡ t) where
   -- the code of what was told is the code of what it is to answer
   pub bytes_code : {n : ℕ} → n ≡ save_code (saved r) → n ≡ save_code t.answers
   bytes_code e = e ∙ ap (λ (b : Saving). save_code b.answers) k
@@ -66,7 +66,7 @@ module _ (r : Saved) {l : List ℕ} {t : Saving} (k : left_bytes r l ≡ t) wher
   bytes_left = ap (λ (b : Saving). b.leaves) k
 
 -- an explanation
-module _ (r : Explanation) {l : List (List ℕ)} {t : LeftRows} (k : left_rows r l ≡ t) where
+module _ (r : Result Explanation Refusal) {l : List (List ℕ)} {t : LeftRows} (k : left_rows r l ≡ t) where
   -- the code of what was told is the code of what it is to answer
   pub rows_code : {n : ℕ} → n ≡ explain_code (told_explained r) → n ≡ explain_code t.answers
   rows_code e = e ∙ ap (λ (b : LeftRows). explain_code b.answers) k

@@ -1,57 +1,35 @@
 -- Refusal numbers are 01's, 1 to 14: one law for the lines of every call, and what it says of each call.
 -- Assumes nothing.
 use mathlib.Core.Path.{◌≡◌, refl, sym, ap, ◌∙◌}
-use mathlib.Core.Bool.{Bool, true, ◌&&◌}
-use mathlib.Core.List.{List, ◌∷◌}
-use Prim.Native.Nat.{ℕ, ◌≤◌}
-use borrow.Author.Tests.{leb-true}
-use lib.Dec.{eqb, leb}
+use mathlib.Core.Bool.{true}
+use mathlib.Core.List.{List}
+use Prim.Native.Nat.{ℕ}
+use lib.Dec.{eqb}
 use lib.ListN.{length}
 use Rattle.model.specs.Lists.{all_of, same}
-use Rattle.model.specs.Policy.{Policy}
-use Rattle.model.specs.Command.{Command, create_class, create_element, assign, deassign, delete_element, create_association, delete_association, create_prohibition, delete_prohibition, start_process, end_process, new_lines, command_lines, after}
+use Rattle.answer.proofs.Numbered.{Number, listed_lines, first_number, command_lines_listed}
+use Rattle.model.specs.Command.{Command, new_lines, command_lines, after}
 use Rattle.model.specs.Image.{image_of, load_lines, save_lines}
 use Rattle.model.specs.Contain.{contained}
 use Rattle.model.specs.Request.{Request, verdict, decision, indexed_decision, request_lines, indexed_lines}
 use Rattle.model.specs.Explain.{Explained, explain_lines, explanation, rows}
 use Rattle.model.specs.Index.{index_of, bit_at, contain_lines, index_lines}
-use Rattle.model.specs.Refusal.{Lent, Line, First, now, next, Answer, refused, answer}
+use Rattle.model.specs.Refusal.{Line, Answer, refused, answer}
 use Rattle.model.specs.Calls.{Memory, contains, decide, decide_indexed, is_index, save, build, command, lent}
-use Rattle.model.proofs.Truth.{and_left, and_right}
 use Rattle.model.proofs.Refusals.{refused_first}
 use Rattle.table.specs.Layout.{word_count}
 use Rattle.table.specs.View.{empty_table}
 use Rattle.table.specs.Answers.{new_table}
 use Rattle.image.specs.Answers.{load_table}
+use Rattle.std.specs.Prelude.{Result}
+use Rattle.answer.specs.declared.Refusal.{Refusal}
 use Rattle.explain.specs.Answers.{told, Left, left, explaining}
 use Rattle.explain.specs.declared.Explanation.{Explanation}
 use Rattle.exports.specs.Codes.{Listed}
 
--- a number of 01's
-pub record Number (n : ℕ) : Type 0 where
-  pub least : 1 ≤ n
-  pub most : n ≤ 14
-
 -- a refusal has a number of 01's
 abbrev pub Numbered : {A : Type 0} → Answer A → Type 0
 Numbered a = (n : ℕ) → a ≡ refused n → Number n
-
--- the lines' numbers are 1 to 14
-abbrev listed_lines : List Line → Bool
-listed_lines ls = all_of (λ l. leb 1 l.number && leb l.number 14) ls
-
--- the first line that holds has a number of 01's
-first_number : {n : ℕ} {ls : List Line} → listed_lines ls ≡ true → First n ls → Number n
-unfolding all_of
-first_number {n} {ls = l ∷ ls} t (now e h) =
-    let b = and_left (leb 1 l.number && leb l.number 14) (listed_lines ls) t in
-    let it : Number l.number = record {
-      least = leb-true 1 l.number (and_left (leb 1 l.number) (leb l.number 14) b);
-      most = leb-true l.number 14 (and_right (leb 1 l.number) (leb l.number 14) b);
-    } in
-    rw e at it
-first_number {ls = l ∷ ls} t (next h f) = first_number (and_right (leb 1 l.number && leb l.number 14) (listed_lines ls) t) f
-first_number {n = n} {ls = mathlib.Core.List.[]} t never = elim never [ ]
 
 -- a call that is answered by its lines is refused with a number of 01's where their numbers are
 pub lines_numbered : {A : Type 0} (a : A) (ls : List Line) → listed_lines ls ≡ true → Numbered (answer ls a)
@@ -108,21 +86,6 @@ pub build_numbered : (m : Memory) (index : List ℕ) → Numbered (build m index
 unfolding build all_of
 build_numbered m index = lines_numbered (index_of m.policy) (index_lines (lent m index)) refl
 
--- the lines of the eleven commands have numbers of 01's
-command_lines_listed : (m : Lent) (p : Policy) (c : Command) → listed_lines (command_lines m p c) ≡ true
-unfolding command_lines all_of
-command_lines_listed m p (create_class x) = refl
-command_lines_listed m p (create_element x k y) = refl
-command_lines_listed m p (assign x y) = refl
-command_lines_listed m p (deassign x y) = refl
-command_lines_listed m p (delete_element x) = refl
-command_lines_listed m p (create_association a) = refl
-command_lines_listed m p (delete_association a) = refl
-command_lines_listed m p (create_prohibition b) = refl
-command_lines_listed m p (delete_prohibition b) = refl
-command_lines_listed m p (start_process i u) = refl
-command_lines_listed m p (end_process i) = refl
-
 -- so a command is refused with a number of 01's
 pub command_numbered : (m : Memory) (index : List ℕ) (c : Command) → Numbered (command m index c).answers
 unfolding command
@@ -130,5 +93,5 @@ command_numbered m index c =
     lines_numbered (after m.policy c) (command_lines (lent m index) m.policy c) (command_lines_listed (lent m index) m.policy c)
 
 -- an explanation that the contract allows is refused with a number of at most 14
-pub explained_listed : (r : Explanation) (m : Memory) (q : Request) (room : List (List ℕ)) {l : List (List ℕ)} → left r l ≡ explaining m q room → Listed (told r)
+pub explained_listed : (r : Result Explanation Refusal) (m : Memory) (q : Request) (room : List (List ℕ)) {l : List (List ℕ)} → left r l ≡ explaining m q room → Listed (told r)
 explained_listed r m q room k = as_numbered (ap (λ (b : Left). b.answers) k) (explaining_numbered m q room)

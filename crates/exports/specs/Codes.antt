@@ -47,9 +47,13 @@ unfoldable pub save_code : Answer ℕ → ℕ
 save_code (accepted n) = n
 save_code (refused n) = n * high
 
+-- what is explained: the verdict's code in the high half and the number of rows in the low half
+abbrev pub rows_code : Explained → ℕ
+rows_code e = verdict_code e.verdict * high + e.count
+
 -- the explanation: the decision's code in the high half and the number of rows in the low half; a refused one has no rows
 unfoldable pub explain_code : Answer Explained → ℕ
-explain_code (accepted e) = verdict_code e.verdict * high + e.count
+explain_code (accepted e) = rows_code e
 explain_code (refused n) = (16 + n) * high
 
 -- The command c on the words mem and the index idx, with the code r, the words mem' and the index idx' afterwards: one contract for all eleven.

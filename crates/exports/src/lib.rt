@@ -1,69 +1,67 @@
 // The C face of the public calls. A lent slice is a pointer and a length; include/quandrilof.h says what a C caller must keep to.
 #![tactic(auto)]
 
-ghost use Rattle.std.specs.Prelude.{◌≡◌, ◌+◌, ◌*◌};
+ghost use Rattle.std.specs.Prelude.{◌≡◌, ◌+◌, ◌*◌, ◌≤◌};
 ghost use Rattle.model.specs.Command.{create_class, create_element, assign, deassign, delete_element, create_association, delete_association, create_prohibition, delete_prohibition, start_process, end_process};
+ghost use Rattle.answer.specs.Answers.{number_of, told};
 ghost use Rattle.table.specs.Answers.{told as told_done};
-ghost use Rattle.climb.specs.Answers.{told as told_contained};
-ghost use Rattle.index.specs.Answers.{matched};
-ghost use Rattle.decide.specs.Answers.{told as told_decided};
-ghost use Rattle.explain.specs.Answers.{told as told_explained};
+ghost use Rattle.decide.specs.Answers.{verdict_of, told as told_decided};
+ghost use Rattle.explain.specs.Answers.{explained_by, told as told_explained};
 ghost use Rattle.store.specs.ProhibitionWords.{prohibition};
 ghost use Rattle.image.specs.Answers.{saved};
-ghost use Rattle.exports.specs.Codes.{code, decision_code, yes_code, save_code, explain_code, requested, Listed};
+ghost use Rattle.exports.specs.Codes.{code, verdict_code, decision_code, yes_code, save_code, rows_code, explain_code, requested};
 ghost use Rattle.exports.specs.Allows as allows;
 
-use climb::Containment;
+use answer::Refusal;
 use decide::Decision;
 use explain::Explanation;
-use image::Saved;
-use index::Matching;
 use request::Request;
-use table::Outcome;
 
 // The refusal number, 0 where there is none.
-fn number(r: Outcome) -> u32
+fn number(r: Result<(), Refusal>) -> u32
     ensures { result ≡ code (told_done r r) }
 {
     match r {
-        Outcome::Done => 0,
-        Outcome::Refused(n) => n,
+        Ok(()) => 0,
+        Err(refusal) => u32::from(refusal),
     }
 }
 
-// The alternative that is granted, 0 for a deny, or 16 and the refusal number.
-fn decision_code(r: Decision) -> u32
-    requires { Listed (told_decided r) }
+// 16 and the refusal number.
+fn refusal_code(refusal: Refusal) -> u32
+    ensures value { result ≡ 16 + number_of refusal }
+    ensures upper_bound { result ≤ 30 }
+{
+    16 + u32::from(refusal)
+}
+
+// The alternative that is granted, 0 for a deny.
+fn verdict_code(decision: Decision) -> u32
+    ensures { result ≡ verdict_code (verdict_of decision) }
+{
+    match decision {
+        Decision::Grant(k) => k,
+        Decision::Deny => 0,
+    }
+}
+
+// The verdict's code, or 16 and the refusal number.
+fn decision_code(r: Result<Decision, Refusal>) -> u32
     ensures { result ≡ decision_code (told_decided r) }
 {
     match r {
-        Decision::Grant(k) => k,
-        Decision::Deny => 0,
-        Decision::Refused(n) => 16 + n,
+        Ok(decision) => verdict_code(decision),
+        Err(refusal) => refusal_code(refusal),
     }
 }
 
-// 1 for within, 0 for outside, or 16 and the refusal number.
-fn containment_code(r: Containment) -> u32
-    requires { Listed (told_contained r) }
-    ensures { result ≡ yes_code (told_contained r) }
+// 1 for yes, 0 for no, or 16 and the refusal number.
+fn yes_code(r: Result<bool, Refusal>) -> u32
+    ensures { result ≡ yes_code (told (λ b. b) r) }
 {
     match r {
-        Containment::Within => 1,
-        Containment::Outside => 0,
-        Containment::Refused(n) => 16 + n,
-    }
-}
-
-// 1 for the same, 0 for another, or 16 and the refusal number.
-fn matching_code(r: Matching) -> u32
-    requires { Listed (matched r) }
-    ensures { result ≡ yes_code (matched r) }
-{
-    match r {
-        Matching::Same => 1,
-        Matching::Other => 0,
-        Matching::Refused(n) => 16 + n,
+        Ok(yes) => u32::from(yes),
+        Err(refusal) => refusal_code(refusal),
     }
 }
 
@@ -75,24 +73,32 @@ fn pair(high: u32, low: u32) -> u64
 }
 
 // The length, or the refusal number in the high half.
-fn save_code(r: Saved) -> u64
+fn save_code(r: Result<usize, Refusal>) -> u64
     ensures { result ≡ save_code (saved r) }
 {
     match r {
-        Saved::Length(n) => n as u64,
-        Saved::Refused(n) => pair(n, 0),
+        Ok(n) => n as u64,
+        Err(refusal) => pair(u32::from(refusal), 0),
+    }
+}
+
+// The verdict's code in the high half, the number of rows in the low half.
+fn rows_code(explanation: Explanation) -> u64
+    ensures { result ≡ rows_code (explained_by explanation) }
+{
+    match explanation {
+        Explanation::Grant(k, n) => pair(k, n),
+        Explanation::Deny(n) => pair(0, n),
     }
 }
 
 // The decision's code in the high half, the number of rows in the low half.
-fn explain_code(r: Explanation) -> u64
-    requires { Listed (told_explained r) }
+fn explain_code(r: Result<Explanation, Refusal>) -> u64
     ensures { result ≡ explain_code (told_explained r) }
 {
     match r {
-        Explanation::Grant(k, n) => pair(k, n),
-        Explanation::Deny(n) => n as u64,
-        Explanation::Refused(n) => pair(16 + n, 0),
+        Ok(explanation) => rows_code(explanation),
+        Err(refusal) => pair(refusal_code(refusal), 0),
     }
 }
 
@@ -133,7 +139,7 @@ pub extern "C" fn qd_build_index(table: &[u32], index: &mut [u8]) -> u32
 pub extern "C" fn qd_is_index(table: &[u32], index: &[u8]) -> u32
     ensures { allows.is_index table.now index.now result }
 {
-    matching_code(policy::is_index(table, index))
+    yes_code(policy::is_index(table, index))
 }
 
 // Whether x is within y, by chains of assignments.
@@ -141,7 +147,7 @@ pub extern "C" fn qd_is_index(table: &[u32], index: &[u8]) -> u32
 pub extern "C" fn qd_contains(table: &[u32], x: u32, y: u32) -> u32
     ensures { allows.contains table.now x y result }
 {
-    containment_code(policy::contains(table, x, y))
+    yes_code(policy::contains(table, x, y))
 }
 
 // The plain decision.

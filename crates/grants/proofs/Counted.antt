@@ -1,19 +1,20 @@
 -- How many: the classes of an element, the rights of a set, the rows of a set and of an alternative.
 -- Assumes nothing.
 use mathlib.Core.Path.{◌≡◌, refl, sym, ap, ap₂, ◌∙◌}
-use mathlib.Core.Bool.{Bool, true, false}
+use mathlib.Core.Bool.{Bool, true, false, cond}
 use mathlib.Core.List.{List, [], ◌∷◌, ◌++◌}
-use Prim.Native.Nat.{ℕ, ◌+◌, ◌*◌, ◌≤◌}
-use native.Mathlib.Nat.{add_comm, mul-le-mul_right, suc-mul}
-use native.Mathlib.Numerals.{add-one}
+use Prim.Native.Nat.{ℕ, zero, suc, ◌+◌, ◌*◌, ◌/◌, ◌%◌, ◌^◌, ◌≤◌, ◌<◌}
+use native.Mathlib.Nat.{div-one, add_comm, mul-le-mul_right, suc-mul}
 use native.Mathlib.Omega.{arith}
 use mir.Syntax.{w64}
 use mir.Val.{Fits}
 use mir.Facts.{Fits-le, Fits-lit}
+use lib.Count.{ones, ones_step, ones-le}
+use lib.Pow.{shr-shr}
+use lib.Dec.{eqb}
 use lib.ListN.{length, get_or, length-append, length-map}
-use Rattle.model.specs.Lists.{those, one, tabulate}
+use Rattle.model.specs.Lists.{those, tabulate}
 use Rattle.model.specs.Policy.{Policy, has_right}
-use Rattle.model.specs.Bits.{digit}
 use Rattle.model.specs.Contain.{contained}
 use Rattle.model.specs.Rule.{classes_of}
 use Rattle.model.specs.Explain.{joined}
@@ -23,56 +24,47 @@ use Rattle.request.specs.declared.Request.{Request}
 use Rattle.rule.specs.declared.Asking.{Asking}
 use Rattle.held.specs.Lacking.{Rows}
 use Rattle.decide.specs.Asks.{asking_of, with_right, AllRows}
-use Rattle.decide.proofs.Left.{Left, rights_below}
 use Rattle.grants.specs.Numbers.{class_numbers, right_numbers, set_numbers, grant_numbers}
-use Rattle.grants.proofs.Below.{those_last}
 
--- a test as a number
-module _ {b : Bool} where
-  -- it passes
-  pub one_for : b ≡ true → AtMost (digit b) 1 1
-  unfolding digit
-  one_for h = rw h (record { is = refl; few = omega arith })
+-- of two lists that are told off, as many pass one test as pass another
+many_alike : {A B : Type 0} (s : A → Bool) (t : B → Bool) (n : ℕ) (f : ℕ → A) (g : ℕ → B) → ((i : ℕ) → s (f i) ≡ t (g i))
+    → length (those s (tabulate n f)) ≡ length (those t (tabulate n g))
+unfolding those tabulate
+many_alike s t zero f g e = refl
+many_alike {A} {B} s t (suc n) f g e = rw (e 0) (go (t (g 0)) (f 0) (g 0) _ _ (many_alike s t n (λ i. f (suc i)) (λ i. g (suc i)) (λ i. e (suc i))))
+  where
+    go : (b : Bool) (x : A) (y : B) (l : List A) (m : List B) → length l ≡ length m → length (cond b (x ∷ l) l) ≡ length (cond b (y ∷ m) m)
+    go true x y l m k = ap suc k
+    go false x y l m k = k
 
-  -- it does not
-  pub none_for : b ≡ false → AtMost (digit b) 1 0
-  unfolding digit
-  none_for h = rw h (record { is = refl; few = omega arith })
+-- right i of half a set is the next of the whole
+right_halved : (rights i : ℕ) → has_right (rights / 2) i ≡ has_right rights (suc i)
+unfolding has_right
+right_halved rights i =
+    let e : 1 + i ≡ suc i = omega arith in
+    ap (λ (x : ℕ). eqb (x % 2) 1) (shr-shr rights 1 i ∙ ap (λ (j : ℕ). rights / 2 ^ j) e)
 
--- n is how many numbers below c pass the test
-pub record CountedBelow (t : ℕ → Bool) (c n : ℕ) : Type 0 where
-  pub is : n ≡ length (those t (tabulate c (λ i. i)))
-  pub few : n ≤ c
+-- a number below 2 ^ k has as many bits as rights below k
+bits_many : (k n : ℕ) → n < 2 ^ k → ones n ≡ length (those (has_right n) (tabulate k (λ i. i)))
+unfolding those tabulate has_right
+bits_many zero n l = omega (arith, ones-le 0 n l)
+bits_many (suc k) n l =
+    ones_step n
+    ∙ ap (λ (m : ℕ). n % 2 + m) (bits_many k (n / 2) (omega (arith, pow_suc)) ∙ many_alike (has_right (n / 2)) (has_right n) k (λ i. i) suc (right_halved n))
+    ∙ (rw (div-one n) (lowest (n % 2) (omega arith)))
+  where
+    pow_suc : 2 ^ suc k ≡ 2 * 2 ^ k
+    pow_suc = omega arith
 
--- one more
-module _ (t : ℕ → Bool) {c n : ℕ} (k : CountedBelow t c n) {b : Bool} (e : b ≡ t c) {d : ℕ} (o : AtMost (digit b) 1 d) where
-  counted_more : CountedBelow t (c + 1) (n + d)
-  unfolding those digit
-  counted_more = record {
-    is = rw (add-one c, those_last t c, length-append (those t (tabulate c (λ i. i))) (those t (one c)))
-        (ap₂ ◌+◌ k.is (o.is ∙ ap digit e ∙ last (t c)));
-    few = omega (arith, k.few, o.few);
-  }
-    where
-      last : (s : Bool) → digit s ≡ length (those (λ (x : ℕ). s) (one c))
-      last true = refl
-      last false = refl
+    lowest : (b : ℕ) → b < 2 → b + length (those (has_right n) (tabulate k suc)) ≡ length (cond (eqb b 1) (0 ∷ those (has_right n) (tabulate k suc)) (those (has_right n) (tabulate k suc)))
+    lowest zero h = omega arith
+    lowest (suc zero) h = omega arith
+    lowest (suc (suc b)) h = absurd (omega arith)
 
--- The rights of a set.
-module _ (rights : ℕ) where
-  -- none is below 0
-  pub rights_start : CountedBelow (has_right rights) 0 0
-  unfolding those tabulate
-  rights_start = record { is = refl; few = omega arith }
-
-  -- one more is counted or not
-  pub rights_more : {r n : ℕ} → CountedBelow (has_right rights) r n → {b : Bool} → b ≡ has_right rights r → {d : ℕ} → AtMost (digit b) 1 d
-      → CountedBelow (has_right rights) (r + 1) (n + d)
-  rights_more k e o = counted_more (has_right rights) k e o
-
-  -- none is left: all are counted
-  pub rights_end : {r n left : ℕ} → CountedBelow (has_right rights) r n → Left rights r left → left ≤ 0 → AtMost (length (rights_in rights)) 32 n
-  rights_end k w h = record { is = k.is ∙ ap length (sym (rights_below w h)); few = omega (arith, k.few, w.near) }
+-- the rights of a set are counted
+pub rights_counted : (rights : ℕ) → rights < 2 ^ 32 → {n : ℕ} → n ≡ ones rights → AtMost (length (rights_in rights)) 32 n
+unfolding rights_in
+rights_counted rights l e = record { is = e ∙ bits_many 32 rights l; few = omega (arith, e, ones-le 32 rights l) }
 
 -- parts of n rows each, joined
 joined_length : {A B : Type 0} (f : A → List B) (n : ℕ) → ((a : A) → length (f a) ≡ n) → (l : List A) → length (joined f l) ≡ length l * n

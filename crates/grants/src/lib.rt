@@ -2,7 +2,6 @@
 #![tactic(auto)]
 
 ghost use Rattle.std.specs.Prelude.{◌≡◌, false, ◌+◌, ◌≤◌, ◌<◌, length};
-ghost use Rattle.model.specs.Bits.{digit};
 ghost use Rattle.model.specs.Contain.{contained};
 ghost use Rattle.model.specs.Rule.{classes_of};
 ghost use Rattle.table.specs.Layout.{association_count};
@@ -15,7 +14,7 @@ ghost use Rattle.grants.specs.Numbers.{named_numbers, right_numbers, if_rows, se
 ghost use Rattle.grants.specs.Put.{Put};
 
 use request::Request;
-use rule::Asking;
+use rule::{Asking, Climbed};
 
 // How many classes the element is within.
 fn count_classes(mem: &[u32], rows: &[u8], q: Asking) -> usize
@@ -24,37 +23,19 @@ fn count_classes(mem: &[u32], rows: &[u8], q: Asking) -> usize
     ensures { AtMost (length (classes_of (contained (policy_of mem.now) q.element) (policy_of mem.now))) 511 result }
 {
     let mut n = 0;
-    let mut c = held::next_class(mem, rows, q.over, 1);
-    while c < 512 {
+    let mut from = 1;
+    while let Some(c) = held::next_class(mem, rows, q.over, from) {
         n += 1;
-        c = held::next_class(mem, rows, q.over, c + 1);
+        from = c + 1;
     }
     n
 }
 
-// 1 for true, 0 for false.
-fn one_if(so: bool) -> usize
-    ensures { AtMost (digit so) 1 result }
-{
-    if so {
-        return 1;
-    }
-    0
-}
-
-// How many rights a set has. They are told off from 0 up until none is left, here and in `put_set`.
+// How many rights a set has.
 fn count_rights(rights: u32) -> usize
     ensures { AtMost (length (rights_in rights)) 32 result }
 {
-    let mut n = 0;
-    let mut left = rights;
-    let mut r = 0;
-    while 0 < left {
-        n += one_if(rule::has_right(rights, r));
-        left = left / 2;
-        r += 1;
-    }
-    n
+    rights.count_ones() as usize
 }
 
 // How many rows the rights of a set have over one argument.
@@ -78,19 +59,19 @@ pub fn count_rows(mem: &[u32], rows: &[u8], q: Request, user: u32, sets: [u32; 3
     let first = count_set(
         mem,
         rows,
-        decide::asking(q, user, false, q.first, 1),
+        decide::asking(q, user, &Climbed { rows }, q.first, 1),
         sets[0],
     );
     let second = count_set(
         mem,
         rows,
-        decide::asking(q, user, false, q.second, 2),
+        decide::asking(q, user, &Climbed { rows }, q.second, 2),
         sets[1],
     );
     let third = count_set(
         mem,
         rows,
-        decide::asking(q, user, false, q.third, 3),
+        decide::asking(q, user, &Climbed { rows }, q.third, 3),
         sets[2],
     );
     first + second + third
@@ -136,11 +117,11 @@ fn put_right(
 {
     let names = lowest::lowest(mem, rows, q);
     let mut t = at;
-    let mut c = held::next_class(mem, rows, q.over, 1);
-    while c < 512 {
+    let mut from = 1;
+    while let Some(c) = held::next_class(mem, rows, q.over, from) {
         out[t] = class_row(mem, names[c as usize], q, alternative, k, c);
         t += 1;
-        c = held::next_class(mem, rows, q.over, c + 1);
+        from = c + 1;
     }
     t
 }
@@ -188,6 +169,7 @@ fn put_set(
     let mut t = at;
     let mut left = rights;
     let mut r = 0;
+    // A while: the set is halved from right to right, until none is left.
     while 0 < left {
         t = put_if(mem, rows, q, rights, r, alternative, k, out, t);
         left = left / 2;
@@ -217,7 +199,7 @@ fn put_argument(
     put_set(
         mem,
         rows,
-        decide::asking(q, user, false, e, k),
+        decide::asking(q, user, &Climbed { rows }, e, k),
         rights,
         alternative,
         k,

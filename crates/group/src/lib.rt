@@ -2,40 +2,16 @@
 #![tactic(auto)]
 
 ghost use Rattle.std.specs.Prelude.{◌≡◌, ◌+◌, ◌*◌, ◌≤◌, ◌<◌, length, take, drop, get_or, replicate};
-ghost use Rattle.model.specs.Lists.{before, same};
+ghost use Rattle.model.specs.Lists.{before};
 ghost use Rattle.group.specs.Group.{records, laid, first_of, begins, inserted_at, removed_at, with_record, without_record, Fits};
 
-// The record is before the one that starts at word `at`.
-fn is_before(mem: &[u32], at: usize, rec: &[u32]) -> bool
-    requires { at + length rec.now ≤ length mem.now }
-    ensures { result ≡ before rec.now (take (length rec.now) (drop at mem.now)) }
+// Record i of those of `width` words from `base` on.
+fn record(mem: &[u32], base: usize, width: usize, i: usize) -> &[u32]
+    requires { base + width * i + width ≤ length mem.now }
+    ensures { result.now ≡ take width (drop (base + width * i) mem.now) }
 {
-    let mut i = 0;
-    while i < rec.len() {
-        if rec[i] < mem[at + i] {
-            return true;
-        }
-        if mem[at + i] < rec[i] {
-            return false;
-        }
-        i += 1;
-    }
-    false
-}
-
-// The words are those that stand from word `at` on.
-fn is_same(mem: &[u32], at: usize, rec: &[u32]) -> bool
-    requires { at + length rec.now ≤ length mem.now }
-    ensures { result ≡ same rec.now (take (length rec.now) (drop at mem.now)) }
-{
-    let mut i = 0;
-    while i < rec.len() {
-        if rec[i] != mem[at + i] {
-            return false;
-        }
-        i += 1;
-    }
-    true
+    let at = base + width * i;
+    &mem[at..at + width]
 }
 
 // How many of the n records from `base` on stand before the first that the record is before.
@@ -43,16 +19,9 @@ pub fn place(mem: &[u32], base: usize, n: usize, rec: &[u32]) -> usize
     requires { base + length rec.now * n ≤ length mem.now }
     ensures { (result ≡ first_of (before rec.now) (records (length rec.now) n (drop base mem.now))) × (result ≤ n) }
 {
-    let mut i = 0;
-    let mut at = base;
-    while i < n {
-        if is_before(mem, at, rec) {
-            return i;
-        }
-        at += rec.len();
-        i += 1;
-    }
-    n
+    (0..n)
+        .position(|i| rec < record(mem, base, rec.len(), i))
+        .unwrap_or(n)
 }
 
 // How many of the n records of `width` words from `base` on stand before the first that begins with the words given.
@@ -61,40 +30,9 @@ pub fn find(mem: &[u32], base: usize, width: usize, n: usize, front: &[u32]) -> 
     requires front_len_bound { length front.now ≤ width }
     ensures { (result ≡ first_of (begins front.now) (records width n (drop base mem.now))) × (result ≤ n) }
 {
-    let mut i = 0;
-    let mut at = base;
-    while i < n {
-        if is_same(mem, at, front) {
-            return i;
-        }
-        at += width;
-        i += 1;
-    }
-    n
-}
-
-// Moves n words from `at` on up by k.
-fn open_gap(mem: &mut [u32], at: usize, n: usize, k: usize)
-    requires { at + n + k ≤ length mem.old }
-    ensures { mem.new ≡ laid (at + k) (take n (drop at mem.old)) mem.old }
-{
-    let mut i = n;
-    while 0 < i {
-        i -= 1;
-        mem[at + k + i] = mem[at + i];
-    }
-}
-
-// Moves n words down by k, to `at`.
-fn close_gap(mem: &mut [u32], at: usize, n: usize, k: usize)
-    requires { at + n + k ≤ length mem.old }
-    ensures { mem.new ≡ laid at (take n (drop (at + k) mem.old)) mem.old }
-{
-    let mut i = 0;
-    while i < n {
-        mem[at + i] = mem[at + k + i];
-        i += 1;
-    }
+    (0..n)
+        .position(|i| record(mem, base, width, i).starts_with(front))
+        .unwrap_or(n)
 }
 
 // Puts 0 into n words from `at` on.
@@ -102,11 +40,7 @@ pub fn clear(mem: &mut [u32], at: usize, n: usize)
     requires { at + n ≤ length mem.old }
     ensures { mem.new ≡ laid at (replicate n 0) mem.old }
 {
-    let mut i = 0;
-    while i < n {
-        mem[at + i] = 0;
-        i += 1;
-    }
+    mem[at..at + n].fill(0);
 }
 
 // Puts the record into the words from `at` on.
@@ -114,11 +48,7 @@ pub fn store(mem: &mut [u32], at: usize, rec: &[u32])
     requires { at + length rec.now ≤ length mem.old }
     ensures { mem.new ≡ laid at rec.now mem.old }
 {
-    let mut i = 0;
-    while i < rec.len() {
-        mem[at + i] = rec[i];
-        i += 1;
-    }
+    mem[at..at + rec.len()].copy_from_slice(rec);
 }
 
 // Puts the record in with `at` records before it.
@@ -130,8 +60,9 @@ pub fn insert(mem: &mut [u32], base: usize, counter: usize, at: usize, rec: &[u3
     let width = rec.len();
     let n = mem[counter] as usize;
     let from = base + width * at;
-    open_gap(mem, from, width * (n - at), width);
-    store(mem, from, rec);
+    let end = base + width * n;
+    mem.copy_within(from..end, from + width);
+    mem[from..from + width].copy_from_slice(rec);
     mem[counter] = (n + 1) as u32;
 }
 
@@ -142,10 +73,10 @@ pub fn remove(mem: &mut [u32], base: usize, width: usize, counter: usize, at: us
     ensures { mem.new ≡ removed_at base width counter at k mem.old }
 {
     let n = mem[counter] as usize;
-    let from = base + width * at;
-    let rest = width * (n - (at + k));
-    close_gap(mem, from, rest, width * k);
-    clear(mem, from + rest, width * k);
+    let end = base + width * n;
+    let free = width * k;
+    mem.copy_within(base + width * (at + k)..end, base + width * at);
+    mem[end - free..end].fill(0);
     mem[counter] = (n - k) as u32;
 }
 

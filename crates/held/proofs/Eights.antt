@@ -6,6 +6,8 @@ use mathlib.Core.List.{List}
 use Prim.Native.Nat.{ℕ, ◌+◌, ◌*◌, ◌/◌, ◌≤◌, ◌<◌}
 use native.Mathlib.Omega.{arith}
 use native.Mathlib.Decide.{dec_lt}
+use mir.Syntax.{w8}
+use mir.Val.{Fits}
 use borrow.Author.Tests.{eqb-true, eq-eqb, le-leb, lt-leb}
 use lib.Dec.{eqb}
 use lib.ListN.{length, get_or}
@@ -54,10 +56,10 @@ pub zeros_none : (rows : List ℕ) (from : ℕ) → ZeroTo rows from 0 0
 zeros_none rows from = record { inside = omega arith; small = omega arith; says = λ e j l. absurd (omega arith); when = λ h. refl }
 
 -- one byte more
-pub zeros_more : {rows : List ℕ} {from sum k : ℕ} → ZeroTo rows from sum k → k < 8 → {b : ℕ} → b ≡ get_or rows (from + k) 0 → b < 256 → ZeroTo rows from (sum + b) (k + 1)
+pub zeros_more : {rows : List ℕ} {from sum k : ℕ} → ZeroTo rows from sum k → k < 8 → {b : ℕ} → b ≡ get_or rows (from + k) 0 → Fits w8 (get_or rows (from + k) 0) → ZeroTo rows from (sum + b) (k + 1)
 zeros_more {k = k} z l {b} e m = record {
   inside = omega arith;
-  small = omega (arith, z.small);
+  small = omega (arith, z.small, m.fits);
   says = λ h j s. elim (dec_lt j k) [
     | yes y ↦ z.says (omega arith) j y
     | no y ↦ let q : j ≡ k = omega arith in rw q (omega arith)

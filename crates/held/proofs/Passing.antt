@@ -1,14 +1,14 @@
 -- The way from class to class in a row of bits: the ids that are passed by, one at a time, those of a byte or those of eight bytes together.
 -- Assumes nothing.
-use mathlib.Core.Path.{◌≡◌, refl, sym, ap, subst, ◌∙◌}
-use mathlib.Core.Bool.{Bool, true, false, not, and-false}
+use mathlib.Core.Path.{◌≡◌, refl, sym, ap, ◌∙◌}
+use mathlib.Core.Bool.{Bool, true, false, and-false}
 use mathlib.Core.List.{List}
 use mathlib.Core.Logic.{inl, inr}
 use Prim.Native.Nat.{ℕ, ◌+◌, ◌*◌, ◌-◌, ◌/◌, ◌%◌, ◌^◌, ◌≤◌, ◌<◌}
 use native.Mathlib.Omega.{arith}
 use native.Mathlib.Nat.{zero-div}
 use native.Mathlib.Decide.{dec_lt}
-use borrow.Author.Tests.{eqb-true, eq-eqb, not-true}
+use borrow.Author.Tests.{eqb-true, eq-eqb}
 use lib.Dec.{eqb, leb}
 use lib.ListN.{length, get_or, get_or-eq_default}
 use Rattle.model.specs.Lists.{all_of, tabulate}
@@ -21,7 +21,8 @@ use Rattle.table.proofs.Tabled.{in_tabulate}
 use Rattle.table.proofs.ById.{kind_outside, kind_above, kind_is}
 use Rattle.rule.specs.Sight.{seen}
 use Rattle.rule.specs.Parts.{class_of}
-use Rattle.held.specs.Passing.{zero_byte, zero_bytes, any_class, NextClass}
+use Rattle.std.specs.Prelude.{Option, Some, None, MatchOption}
+use Rattle.held.specs.Passing.{zero_byte, zero_bytes, any_class, LeastClass, NextClass}
 
 module _ (rows : List ℕ) (x y : ℕ) where
   -- behind the last byte every byte counts as zero
@@ -81,11 +82,7 @@ module _ (mem rows : List ℕ) (x : ℕ) where
   passes_none : {c end : ℕ} → c ≤ end → NoClass mem rows x c end c
   passes_none l = record { from = omega arith; most = l; none = λ y a b. absurd (omega arith) }
 
-  -- the loop over the ids of a byte starts
-  pub ids_start : {c end : ℕ} → end ≡ c / 8 * 8 + 8 → NoClass mem rows x c end c
-  ids_start e = passes_none (omega arith)
-
-  -- that over eight bytes starts
+  -- the loop over eight bytes starts
   pub bytes_start : {c end : ℕ} → end ≡ c / 64 * 64 + 64 → NoClass mem rows x c end c
   bytes_start e = passes_none (omega arith)
 
@@ -93,88 +90,71 @@ module _ (mem rows : List ℕ) (x : ℕ) where
   pub row_start : {c : ℕ} → c ≤ 512 → NoClass mem rows x c 512 c
   row_start l = passes_none l
 
-  -- there is no class from d on below the end
-  passes_all : {d end : ℕ} → d ≤ end → ((y : ℕ) → d ≤ y → y < end → class_of (seen rows true x) (policy_of mem) y ≡ false) → NextClass mem rows x d end end
-  passes_all l none = record { from = l; most = omega arith; none = none; its_class = λ s. absurd (omega arith) }
-
   -- a zero byte has no class
-  pub byte_zero : {d end : ℕ} → end ≡ d / 8 * 8 + 8 → {b : Bool} → b ≡ zero_byte rows x d → b ≡ true → NextClass mem rows x d end end
+  pub byte_zero : {d end : ℕ} → end ≡ d / 8 * 8 + 8 → {b : Bool} → b ≡ zero_byte rows x d → b ≡ true → NextClass mem rows x d end None
   unfolding zero_byte
-  byte_zero {d} {end} q e h = passes_all (omega arith) (λ y a s.
+  byte_zero {d} {end} q e h = λ y a s.
       let k : y / 8 ≡ d / 8 = omega arith in
-      zero_class rows x y mem (rw k (eqb-true (get_or rows (64 * x + d / 8) 0) 0 (sym e ∙ h))))
+      zero_class rows x y mem (rw k (eqb-true (get_or rows (64 * x + d / 8) 0) 0 (sym e ∙ h)))
 
   -- a byte has none whose ids are of no class
-  pub byte_other : {d end : ℕ} → end ≡ d / 8 * 8 + 8 → {b : Bool} → b ≡ any_class mem (end - 8) 8 → not b ≡ true → NextClass mem rows x d end end
-  byte_other {d} {end} q {b} e h = passes_all (omega arith) (λ y a s.
-      others_class (seen rows true x) mem (end - 8) 8 y (sym e ∙ not-true b h) (omega arith) (omega arith))
+  pub byte_other : {d end : ℕ} → end ≡ d / 8 * 8 + 8 → {b : Bool} → b ≡ any_class mem (end - 8) 8 → b ≡ false → NextClass mem rows x d end None
+  byte_other {d} {end} q {b} e h = λ y a s.
+      others_class (seen rows true x) mem (end - 8) 8 y (sym e ∙ h) (omega arith) (omega arith)
 
   -- eight zero bytes have none
-  pub bytes_zero : {d end : ℕ} → end ≡ d / 64 * 64 + 64 → {b : Bool} → b ≡ zero_bytes rows x d → b ≡ true → NextClass mem rows x d end end
-  bytes_zero {d} {end} q e h = passes_all (omega arith) (λ y a s.
+  pub bytes_zero : {d end : ℕ} → end ≡ d / 64 * 64 + 64 → {b : Bool} → b ≡ zero_bytes rows x d → b ≡ true → NextClass mem rows x d end None
+  bytes_zero {d} {end} q e h = λ y a s.
       let k : y / 64 ≡ d / 64 = omega arith in
-      zero_class rows x y mem (zeros_byte rows x d (sym e ∙ h) y k))
+      zero_class rows x y mem (zeros_byte rows x d (sym e ∙ h) y k)
 
-module _ {mem rows : List ℕ} {x c end d : ℕ} (f : NoClass mem rows x c end d) where
-  module _ (l : d < end) {b : Bool} (e : b ≡ class_of (seen rows true x) (policy_of mem) d) where
-    -- d is no class
-    pub id_more : b ≡ false → NoClass mem rows x c end (d + 1)
-    id_more h = record {
-      from = omega (arith, f.from);
-      most = omega arith;
-      none = λ y a s. elim (dec_lt y d) [
-        | yes k ↦ f.none y a k
-        | no k ↦ let q : d ≡ y = omega arith in subst (λ (z : ℕ). class_of (seen rows true x) (policy_of mem) z ≡ false) q (sym e ∙ h)
-      ];
-    }
-
-    -- it is one
-    pub id_found : b ≡ true → NextClass mem rows x c end d
-    id_found h = record { from = f.from; most = f.most; none = f.none; its_class = λ s. sym e ∙ h }
-
-  -- there is none
-  pub ids_end : end ≤ d → NextClass mem rows x c end end
-  ids_end h = record {
-    from = omega (arith, f.from, f.most);
-    most = omega arith;
-    none = λ y a s. f.none y a (omega arith);
-    its_class = λ s. absurd (omega arith);
-  }
+  -- the first of the ids from d on that is a class of the element, if one is
+  pub ids_found : (d end : ℕ) (found : Option ℕ)
+      → MatchOption found ((y : ℕ) → d ≤ y → y < end → class_of (seen rows true x) (policy_of mem) y ≡ false)
+      (λ r. (d ≤ r) × (r < end) × (class_of (seen rows true x) (policy_of mem) r ≡ true) × ((y : ℕ) → d ≤ y → y < r → class_of (seen rows true x) (policy_of mem) y ≡ false))
+      → NextClass mem rows x d end found
+  ids_found d end None h = h
+  ids_found d end (Some r) h = record { from = h.0; early = h.1; none = h.3; its_class = h.2 }
 
 -- A loop over parts, of which one reaches from d to `stop`: what that part says.
-module _ {mem rows : List ℕ} {x c end d stop r : ℕ} (f : NoClass mem rows x c end d) (l : stop ≤ end) (g : NextClass mem rows x d stop r) where
-  -- no class from c on below the one that it says, or below its end
-  both_none : (y : ℕ) → c ≤ y → y < r → class_of (seen rows true x) (policy_of mem) y ≡ false
-  both_none y a s = elim (dec_lt y d) [
+module _ {mem rows : List ℕ} {x c end d stop : ℕ} (f : NoClass mem rows x c end d) (l : stop ≤ end) where
+  -- no class from c on below one before which that part has none
+  both_none : (r : ℕ) → ((y : ℕ) → d ≤ y → y < r → class_of (seen rows true x) (policy_of mem) y ≡ false)
+      → (y : ℕ) → c ≤ y → y < r → class_of (seen rows true x) (policy_of mem) y ≡ false
+  both_none r g y a s = elim (dec_lt y d) [
     | yes k ↦ f.none y a k
-    | no k ↦ g.none y (omega arith) s
+    | no k ↦ g y (omega arith) s
   ]
 
   -- it has none
-  part_more : stop ≤ r → NoClass mem rows x c end r
-  part_more h = record { from = omega (arith, f.from, g.from); most = omega (arith, g.most); none = both_none }
+  part_more : d ≤ stop → NextClass mem rows x d stop None → NoClass mem rows x c end stop
+  part_more m g = record { from = omega (arith, f.from); most = l; none = both_none stop g }
 
   -- it has one
-  part_found : r < stop → NextClass mem rows x c end r
-  part_found h = record { from = omega (arith, f.from, g.from); most = omega arith; none = both_none; its_class = λ s. g.its_class h }
+  part_found : {r : ℕ} → LeastClass mem rows x d stop r → LeastClass mem rows x c end r
+  part_found {r} g = record { from = omega (arith, f.from, g.from); early = omega (arith, g.early); none = both_none r g.none; its_class = g.its_class }
 
--- The loop over eight bytes: what the byte of d says.
-module _ {mem rows : List ℕ} {x c end d r : ℕ} (q : end ≡ c / 64 * 64 + 64) (f : NoClass mem rows x c end d) (l : d < end)
-    (g : NextClass mem rows x d (d / 8 * 8 + 8) r) where
-  -- it has no class
-  pub byte_more : d / 8 * 8 + 8 ≤ r → NoClass mem rows x c end r
-  byte_more h = part_more f (omega arith) g h
+module _ {mem rows : List ℕ} {x c end d : ℕ} (f : NoClass mem rows x c end d) where
+  -- there is none
+  pub parts_end : end ≤ d → NextClass mem rows x c end None
+  parts_end h = λ y a s. f.none y a (omega arith)
 
-  -- it has one
-  pub byte_found : r < d / 8 * 8 + 8 → NextClass mem rows x c end r
-  byte_found h = part_found f (omega arith) g h
+  -- The loop over eight bytes: what the byte of d says.
+  module _ (q : end ≡ c / 64 * 64 + 64) (l : d < end) where
+    -- it has no class
+    pub byte_more : NextClass mem rows x d (d / 8 * 8 + 8) None → NoClass mem rows x c end (d / 8 * 8 + 8)
+    byte_more g = part_more f (omega (arith, f.from)) (omega arith) g
+
+    -- it has one
+    pub byte_found : {r : ℕ} → LeastClass mem rows x d (d / 8 * 8 + 8) r → LeastClass mem rows x c end r
+    byte_found g = part_found f (omega (arith, f.from)) g
 
 -- The loop over a row: what the eight bytes of d say.
-module _ {mem rows : List ℕ} {x c d r : ℕ} (f : NoClass mem rows x c 512 d) (l : d < 512) (g : NextClass mem rows x d (d / 64 * 64 + 64) r) where
+module _ {mem rows : List ℕ} {x c d : ℕ} (f : NoClass mem rows x c 512 d) (l : d < 512) where
   -- they have no class
-  pub bytes_more : d / 64 * 64 + 64 ≤ r → NoClass mem rows x c 512 r
-  bytes_more h = part_more f (omega arith) g h
+  pub bytes_more : NextClass mem rows x d (d / 64 * 64 + 64) None → NoClass mem rows x c 512 (d / 64 * 64 + 64)
+  bytes_more g = part_more f (omega arith) (omega arith) g
 
   -- they have one
-  pub bytes_found : r < d / 64 * 64 + 64 → NextClass mem rows x c 512 r
-  bytes_found h = part_found f (omega arith) g h
+  pub bytes_found : {r : ℕ} → LeastClass mem rows x d (d / 64 * 64 + 64) r → LeastClass mem rows x c 512 r
+  bytes_found g = part_found f (omega arith) g

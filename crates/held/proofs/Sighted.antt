@@ -1,10 +1,12 @@
 -- Rows that say what is meant: what they tell of a right is what the containment tells.
 -- Assumes nothing.
-use mathlib.Core.Path.{◌≡◌, refl, sym, ap, ◌∙◌}
+use mathlib.Core.Path.{◌≡◌, refl, sym, ap, subst, ◌∙◌}
 use mathlib.Core.Bool.{Bool, true, false, not, cond}
 use mathlib.Core.List.{List, [], ◌∷◌}
 use Prim.Native.Nat.{ℕ, ◌<◌}
 use native.Mathlib.Omega.{arith}
+use borrow.Author.Tests.{eqb-true, eqb-false}
+use lib.Dec.{eqb}
 use lib.ListN.{length}
 use Rattle.model.specs.Lists.{In, those, least_of}
 use Rattle.model.specs.Policy.{Policy}
@@ -12,13 +14,15 @@ use Rattle.model.specs.Contain.{contained}
 use Rattle.model.specs.Index.{bit_at}
 use Rattle.model.specs.Rule.{classes, classes_of, given_in, held_by, held, restricted, restricted_by}
 use Rattle.model.specs.Explain.{least_or0}
-use Rattle.model.proofs.Truth.{clash, fails_when, passes, fails, tested, those_alike, those_in}
+use Rattle.model.proofs.Truth.{clash, fails_when, Tested, passes, fails, tested, those_alike, those_in}
 use Rattle.model.proofs.Decisions.Alike.{AlikeRows, classes_alike, given_alike, held_alike, restricted_alike}
 use Rattle.model.proofs.Decisions.Lowest.{least_in}
 use Rattle.table.specs.View.{policy_of}
 use Rattle.rule.specs.Sight.{seen}
 use Rattle.rule.specs.declared.Asking.{Asking}
-use Rattle.held.specs.Lacking.{lack_of, lack_by, sight, Rows, permits}
+use Rattle.held.specs.declared.Holding.{Holding}
+use Rattle.held.specs.declared.Holding.TheVariants.{Held, NoClass, LackedIn}
+use Rattle.held.specs.Lacking.{lack_of, lack_by, as_holding, sight, Rows, permits}
 use Rattle.held.proofs.Classes.{class_high}
 
 -- rows that say the same lack the same
@@ -47,20 +51,34 @@ pub rows_whole : {mem rows : List ℕ} {indexed : Bool} {q : Asking} → Rows me
 rows_whole w h = w.whole h
 
 -- what lacks by the bits of an index is what lacks by the containment that they are read as
-pub lack_indexed : (mem rows : List ℕ) (indexed : Bool) (q : Asking) → Rows mem rows indexed q → indexed ≡ true → {n : ℕ}
-    → n ≡ lack_of (seen rows true q.by) (seen rows true q.over) (bit_at rows) (policy_of mem) q.right
-    → n ≡ lack_by (sight mem rows indexed) (policy_of mem) q.user q.right q.element
+pub lack_indexed : (mem rows : List ℕ) (indexed : Bool) (q : Asking) → Rows mem rows indexed q → indexed ≡ true → {h : Holding}
+    → h ≡ as_holding (lack_of (seen rows true q.by) (seen rows true q.over) (bit_at rows) (policy_of mem) q.right)
+    → h ≡ as_holding (lack_by (sight mem rows indexed) (policy_of mem) q.user q.right q.element)
 unfolding sight
-lack_indexed mem rows true q w h e = e ∙ lack_alike (sighted w (bit_at rows) (λ x y. refl)) q.right
+lack_indexed mem rows true q w h e = e ∙ ap as_holding (lack_alike (sighted w (bit_at rows) (λ x y. refl)) q.right)
 lack_indexed mem rows false q w h e = absurd (clash h refl)
 
 -- what lacks by climbing is what lacks by chains of assignments
-pub lack_climbed : (mem rows : List ℕ) (indexed : Bool) (q : Asking) → Rows mem rows indexed q → indexed ≡ false → {n : ℕ}
-    → n ≡ lack_of (seen rows false q.by) (seen rows false q.over) (contained (policy_of mem)) (policy_of mem) q.right
-    → n ≡ lack_by (sight mem rows indexed) (policy_of mem) q.user q.right q.element
+pub lack_climbed : (mem rows : List ℕ) (indexed : Bool) (q : Asking) → Rows mem rows indexed q → indexed ≡ false → {h : Holding}
+    → h ≡ as_holding (lack_of (seen rows false q.by) (seen rows false q.over) (contained (policy_of mem)) (policy_of mem) q.right)
+    → h ≡ as_holding (lack_by (sight mem rows indexed) (policy_of mem) q.user q.right q.element)
 unfolding sight
 lack_climbed mem rows true q w h e = absurd (clash refl h)
-lack_climbed mem rows false q w h e = e ∙ lack_alike (sighted w (contained (policy_of mem)) (λ x y. refl)) q.right
+lack_climbed mem rows false q w h e = e ∙ ap as_holding (lack_alike (sighted w (contained (policy_of mem)) (λ x y. refl)) q.right)
+
+-- what is answered says which number it is
+abbrev pub Says : Holding → (n : ℕ) → Type 0
+Says Held n = n ≡ 512
+Says NoClass n = (n ≡ 0) × (n ≡ 512 → ⊥)
+Says (LackedIn c) n = (n ≡ c) × (n ≡ 512 → ⊥)
+
+pub says : (n : ℕ) {h : Holding} → h ≡ as_holding n → Says h n
+says n e = subst (λ (h : Holding). Says h n) (sym e) (go (tested (eqb n 512)) (tested (eqb n 0)))
+  where
+    go : Tested (eqb n 512) → Tested (eqb n 0) → Says (as_holding n) n
+    go (passes t) u = rw t (eqb-true n 512 t)
+    go (fails t) (passes u) = rw (t, u) (eqb-true n 0 u, eqb-false n 512 t)
+    go (fails t) (fails u) = rw (t, u) (refl, eqb-false n 512 t)
 
 -- the least of numbers below 512 is below 512
 least_small : (l : List ℕ) → ((m : ℕ) → In m l → m < 512) → least_or0 l < 512
@@ -86,22 +104,22 @@ pub held_lack : (U E : ℕ → Bool) (T : ℕ → ℕ → Bool) (p : Policy) (r 
 unfolding lack_of
 held_lack U E T p r h = rw h
 
-module _ (W : ℕ → ℕ → Bool) (mem : List ℕ) (process u r e : ℕ) {n : ℕ} (l : n ≡ lack_by W (policy_of mem) u r e) where
+module _ (W : ℕ → ℕ → Bool) (mem : List ℕ) (process u r e : ℕ) where
   -- something lacks: the right is not permitted
-  pub permits_lacking : (n ≡ 512 → ⊥) → false ≡ permits W (policy_of mem) process u r e
+  pub permits_lacking : (lack_by W (policy_of mem) u r e ≡ 512 → ⊥) → false ≡ permits W (policy_of mem) process u r e
   unfolding permits
-  permits_lacking d = rw (fails_when (held W (policy_of mem) u r e) (λ h. d (l ∙ held_lack (W u) (W e) W (policy_of mem) r h)))
+  permits_lacking d = rw (fails_when (held W (policy_of mem) u r e) (λ h. d (held_lack (W u) (W e) W (policy_of mem) r h)))
 
   -- nothing lacks: it is permitted unless it is restricted
-  permits_held : n ≡ 512 → not (restricted W (policy_of mem) process u r e) ≡ permits W (policy_of mem) process u r e
+  permits_held : lack_by W (policy_of mem) u r e ≡ 512 → not (restricted W (policy_of mem) process u r e) ≡ permits W (policy_of mem) process u r e
   unfolding permits
-  permits_held s = rw (lack_held (W u) (W e) W mem r (sym l ∙ s))
+  permits_held s = rw (lack_held (W u) (W e) W mem r s)
 
 -- the same, where the rows tell what is restricted
 pub permits_rest : (mem rows : List ℕ) (indexed : Bool) (q : Asking) → Rows mem rows indexed q
-    → {n : ℕ} → n ≡ lack_by (sight mem rows indexed) (policy_of mem) q.user q.right q.element → n ≡ 512
+    → lack_by (sight mem rows indexed) (policy_of mem) q.user q.right q.element ≡ 512
     → {b : Bool} → b ≡ restricted_by (seen rows indexed q.by) (seen rows indexed q.over) (policy_of mem) q.process q.user q.right q.element
     → not b ≡ permits (sight mem rows indexed) (policy_of mem) q.process q.user q.right q.element
-permits_rest mem rows indexed q w l s e =
+permits_rest mem rows indexed q w s e =
     ap not (e ∙ restricted_alike (sighted w (sight mem rows indexed) (λ x y. refl)) q.process q.user q.right q.element)
-    ∙ permits_held (sight mem rows indexed) mem q.process q.user q.right q.element l s
+    ∙ permits_held (sight mem rows indexed) mem q.process q.user q.right q.element s

@@ -1,6 +1,6 @@
 -- What is promised of a right that is asked over an element: what lacks for it to be held, and whether it is held and not restricted.
 -- Assumes nothing.
-use Rattle.std.specs.Prelude.{◌≡◌, Bool, true, not, cond, ◌&&◌, List, ℕ, length}
+use Rattle.std.specs.Prelude.{◌≡◌, Bool, true, not, cond, ◌&&◌, List, ℕ, eqb, length}
 use Rattle.model.specs.Lists.{those}
 use Rattle.model.specs.Policy.{Policy}
 use Rattle.model.specs.Contain.{contained}
@@ -10,6 +10,8 @@ use Rattle.model.specs.Explain.{least_or0}
 use Rattle.table.specs.View.{policy_of}
 use Rattle.rule.specs.Sight.{seen}
 use Rattle.rule.specs.declared.Asking.{Asking}
+use Rattle.held.specs.declared.Holding.{Holding}
+use Rattle.held.specs.declared.Holding.TheVariants.{Held, NoClass, LackedIn}
 
 -- what lacks for the right to be held: 512 where it is held, else the lowest class in which no association gives it, 0 where there is no class
 unfoldable pub lack_of : (U E : ℕ → Bool) (T : ℕ → ℕ → Bool) → Policy → (r : ℕ) → ℕ
@@ -18,6 +20,10 @@ lack_of U E T p r = cond (held_by U E T p r) 512 (least_or0 (those (λ c. not (g
 -- the same, by the containment W
 abbrev pub lack_by : (W : ℕ → ℕ → Bool) → Policy → (u r e : ℕ) → ℕ
 lack_by W p u r e = lack_of (W u) (W e) W p r
+
+-- what that number says
+abbrev pub as_holding : ℕ → Holding
+as_holding n = cond (eqb n 512) Held (cond (eqb n 0) NoClass (LackedIn n))
 
 -- the containment that is meant: "those bits read as containment", or chains of assignments
 unfoldable pub sight : (mem rows : List ℕ) (indexed : Bool) (x y : ℕ) → Bool

@@ -1,6 +1,6 @@
 -- From class to class in a row of bits: the class that comes next, and the bytes that are passed by.
 -- Assumes nothing.
-use Rattle.std.specs.Prelude.{◌≡◌, Bool, true, false, ◌&&◌, List, ℕ, ◌+◌, ◌*◌, ◌/◌, ◌≤◌, ◌<◌, eqb, leb, length, get_or}
+use Rattle.std.specs.Prelude.{◌≡◌, Bool, true, false, ◌&&◌, List, ℕ, ◌+◌, ◌*◌, ◌/◌, ◌≤◌, ◌<◌, eqb, leb, length, get_or, Option, MatchOption}
 use Rattle.model.specs.Lists.{any_of, all_of, tabulate}
 use Rattle.model.specs.Policy.{class}
 use Rattle.table.specs.Layout.{kind_word}
@@ -21,9 +21,14 @@ zero_bytes rows x y =
 unfoldable pub any_class : (mem : List ℕ) (from n : ℕ) → Bool
 any_class mem from n = any_of (λ w. eqb w class) (tabulate n (λ k. kind_word mem (from + k)))
 
--- r is the least id from c on that is a class of the element of row x, or `end` where there is none below it
-pub record NextClass (mem rows : List ℕ) (x c end r : ℕ) : Type 0 where
+-- r is the least id from c on that is a class of the element of row x, and it is below `end`
+pub record LeastClass (mem rows : List ℕ) (x c end r : ℕ) : Type 0 where
   pub from : c ≤ r
-  pub most : r ≤ end
+  pub early : r < end
   pub none : (y : ℕ) → c ≤ y → y < r → class_of (seen rows true x) (policy_of mem) y ≡ false
-  pub its_class : r < end → class_of (seen rows true x) (policy_of mem) r ≡ true
+  pub its_class : class_of (seen rows true x) (policy_of mem) r ≡ true
+
+-- the least class of the element of row x from c on, where there is one below `end`, and none where there is none
+abbrev pub NextClass : (mem rows : List ℕ) (x c end : ℕ) → Option ℕ → Type 0
+NextClass mem rows x c end found =
+    MatchOption found ((y : ℕ) → c ≤ y → y < end → class_of (seen rows true x) (policy_of mem) y ≡ false) (LeastClass mem rows x c end)

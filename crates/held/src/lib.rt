@@ -8,17 +8,24 @@ ghost use Rattle.table.specs.Layout.{association_count};
 ghost use Rattle.table.specs.View.{policy_of};
 ghost use Rattle.table.specs.Facts.{Table};
 ghost use Rattle.rule.specs.Sight.{seen};
-ghost use Rattle.held.specs.Lacking.{lack_of, lack_by, sight, Rows, permits};
+ghost use Rattle.held.specs.Lacking.{lack_of, lack_by, as_holding, sight, Rows, permits};
 ghost use Rattle.held.specs.Giving.{GivenMarks, GivenBits};
 ghost use Rattle.held.specs.Passing.{zero_byte, zero_bytes, any_class, NextClass};
 
-use rule::Asking;
+use rule::{Asking, Climbed, Indexed, Sight};
 
-// What `lack` answers where the right is held.
-pub const HELD: u32 = 512;
+// Whether a right is held over an element, or what lacks.
+#[derive(Clone, Copy)]
+pub enum Holding {
+    Held,
+    // The element has no class.
+    NoClass,
+    // No association gives it in this class of the element, the lowest such.
+    LackedIn(u32),
+}
 
-// What it answers where the element has no class.
-const NO_CLASS: u32 = 0;
+// What is so before a class of the element is met.
+const UNMET: Holding = Holding::NoClass;
 
 // Whether the byte of row x in which the bit of y stands is zero, as it is where the bytes do not reach.
 fn is_zero_byte(rows: &[u8], x: u32, y: u32) -> bool
@@ -38,43 +45,23 @@ fn has_class(mem: &[u32], from: u32) -> bool
     ensures { result ≡ any_class mem.now from 8 }
 {
     let mut some = false;
-    let mut k = 0;
-    while k < 8 {
-        some = some | (mem[table::KINDS + from as usize + k] == 5);
-        k += 1;
+    for k in 0..8 {
+        some |= mem[table::KINDS + from as usize + k] == 5;
     }
     some
 }
 
-// The least class of the element of row x from d on, below the end of the byte in which the bit of d stands; `end` where there is none.
-fn class_in_byte(mem: &[u32], rows: &[u8], x: u32, d: u32, end: u32) -> u32
+// The least class of the element of row x from d on, below the end of the byte in which the bit of d stands.
+fn class_in_byte(mem: &[u32], rows: &[u8], x: u32, d: u32, end: u32) -> Option<u32>
     requires table { Table mem.now }
     requires end_value { end ≡ d / 8 * 8 + 8 }
     requires end_bound { end ≤ 512 }
     ensures { NextClass mem.now rows.now x d end result }
 {
-    if is_zero_byte(rows, x, d) {
-        return end;
+    if is_zero_byte(rows, x, d) || !has_class(mem, end - 8) {
+        return None;
     }
-    if !has_class(mem, end - 8) {
-        return end;
-    }
-    let mut y = d;
-    while y < end {
-        if rule::is_class_of(mem, rows, true, x, y) {
-            return y;
-        }
-        y += 1;
-    }
-    end
-}
-
-// A byte as a word.
-fn wide(b: u8) -> u32
-    ensures value { result ≡ b }
-    ensures upper_bound { result < 256 }
-{
-    b as u32
+    (d..end).find(|y| rule::is_class_of(mem, &Indexed { rows }, x, *y))
 }
 
 // Whether the eight bytes of row x among which the bit of y stands are all there and all zero.
@@ -86,51 +73,51 @@ fn are_zero_bytes(rows: &[u8], x: u32, y: u32) -> bool
         return false;
     }
     let mut sum = 0;
-    let mut i = 0;
-    while i < 8 {
-        sum = sum + wide(rows[from + i]);
-        i += 1;
+    for i in 0..8 {
+        sum += u32::from(rows[from + i]);
     }
     sum == 0
 }
 
-// The least class of the element of row x from d on, below the end of the eight bytes among which the bit of d stands; `end` where there is none.
-// A byte without a bit, or whose ids are of no class, is passed by.
-fn class_in_bytes(mem: &[u32], rows: &[u8], x: u32, d: u32, end: u32) -> u32
+// The least class of the element of row x from d on, below the end of the eight bytes among which the bit of d stands. A byte without a bit, or whose
+// ids are of no class, is passed by.
+fn class_in_bytes(mem: &[u32], rows: &[u8], x: u32, d: u32, end: u32) -> Option<u32>
     requires table { Table mem.now }
     requires end_value { end ≡ d / 64 * 64 + 64 }
     requires end_bound { end ≤ 512 }
     ensures { NextClass mem.now rows.now x d end result }
 {
     if are_zero_bytes(rows, x, d) {
-        return end;
+        return None;
     }
     let mut c = d;
+    // A while: the first step may begin within a byte.
     while c < end {
         let stop = c / 8 * 8 + 8;
-        c = class_in_byte(mem, rows, x, c, stop);
-        if c < stop {
-            return c;
+        if let Some(y) = class_in_byte(mem, rows, x, c, stop) {
+            return Some(y);
         }
+        c = stop;
     }
-    end
+    None
 }
 
-// The least class of the element of row x from c on, 512 where there is none: eight bytes without a bit are passed by.
-pub fn next_class(mem: &[u32], rows: &[u8], x: u32, c: u32) -> u32
+// The least class of the element of row x from c on: eight bytes without a bit are passed by.
+pub fn next_class(mem: &[u32], rows: &[u8], x: u32, c: u32) -> Option<u32>
     requires table { Table mem.now }
     requires c_bound { c ≤ 512 }
     ensures { NextClass mem.now rows.now x c 512 result }
 {
     let mut d = c;
+    // A while: the first step may begin within eight bytes.
     while d < 512 {
         let end = d / 64 * 64 + 64;
-        d = class_in_bytes(mem, rows, x, d, end);
-        if d < end {
-            return d;
+        if let Some(y) = class_in_bytes(mem, rows, x, d, end) {
+            return Some(y);
         }
+        d = end;
     }
-    512
+    None
 }
 
 // Marks the classes in which association i gives the right: climbs on from its target.
@@ -149,7 +136,7 @@ fn give_by_climb(
     requires given_marks { GivenMarks mem.now rows.now q i given.old queue.old tail }
     ensures { GivenMarks mem.now rows.now q (i + 1) given.new queue.new result }
 {
-    if !rule::is_offered(mem, rows, false, q, i) {
+    if !rule::is_offered(mem, &Climbed { rows }, q, i) {
         return tail;
     }
     let target = table::target_at(mem, i);
@@ -158,29 +145,27 @@ fn give_by_climb(
 
 // What lacks for the right to be held, by climbing: the associations are gone through once, as far as the classes of the element need them, and
 // what their targets are within is climbed once.
-fn lack_by_climb(mem: &[u32], rows: &[u8], q: Asking) -> u32
+fn lack_by_climb(mem: &[u32], rows: &[u8], q: Asking) -> Holding
     requires table { Table mem.now }
     requires right_bound { q.right < 32 }
-    ensures { result ≡ lack_of (seen rows.now false q.by) (seen rows.now false q.over) (contained (policy_of mem.now)) (policy_of mem.now) q.right }
+    ensures { result ≡ as_holding (lack_of (seen rows.now false q.by) (seen rows.now false q.over) (contained (policy_of mem.now)) (policy_of mem.now) q.right) }
 {
-    let n = table::association_count(mem);
+    let mut associations = 0..table::association_count(mem);
     let mut given = [0u8; 512];
     let mut queue = [0u32; 512];
     let mut tail = 0;
-    let mut lacked = NO_CLASS;
-    let mut i = 0;
-    let mut c = next_class(mem, rows, q.over, 1);
-    'classes: while c < 512 {
-        while given[c as usize] < 1 {
-            if n <= i {
-                lacked = c;
+    let mut lacked = UNMET;
+    let mut from = 1;
+    'classes: while let Some(c) = next_class(mem, rows, q.over, from) {
+        while given[c as usize] == 0 {
+            let Some(i) = associations.next() else {
+                lacked = Holding::LackedIn(c);
                 break 'classes;
-            }
+            };
             tail = give_by_climb(mem, rows, q, i, &mut given, &mut queue, tail);
-            i += 1;
         }
-        lacked = HELD;
-        c = next_class(mem, rows, q.over, c + 1);
+        lacked = Holding::Held;
+        from = c + 1;
     }
     lacked
 }
@@ -194,7 +179,7 @@ fn give_by_index(mem: &[u32], idx: &[u8], q: Asking, i: usize, given: &mut [u8])
     requires given_bits { GivenBits mem.now idx.now q i given.old }
     ensures { GivenBits mem.now idx.now q (i + 1) given.new }
 {
-    if !rule::is_offered(mem, idx, true, q, i) {
+    if !rule::is_offered(mem, &Indexed { rows: idx }, q, i) {
         return;
     }
     let target = table::target_at(mem, i);
@@ -202,54 +187,61 @@ fn give_by_index(mem: &[u32], idx: &[u8], q: Asking, i: usize, given: &mut [u8])
 }
 
 // What lacks for the right to be held, by the bits of an index.
-fn lack_by_index(mem: &[u32], idx: &[u8], q: Asking) -> u32
+fn lack_by_index(mem: &[u32], idx: &[u8], q: Asking) -> Holding
     requires table { Table mem.now }
     requires idx_len { length idx.now ≡ 32768 }
     requires right_bound { q.right < 32 }
-    ensures { result ≡ lack_of (seen idx.now true q.by) (seen idx.now true q.over) (bit_at idx.now) (policy_of mem.now) q.right }
+    ensures { result ≡ as_holding (lack_of (seen idx.now true q.by) (seen idx.now true q.over) (bit_at idx.now) (policy_of mem.now) q.right) }
 {
-    let n = table::association_count(mem);
+    let mut associations = 0..table::association_count(mem);
     let mut given = [0u8; 64];
-    let mut lacked = NO_CLASS;
-    let mut i = 0;
-    let mut c = next_class(mem, idx, q.over, 1);
-    'classes: while c < 512 {
+    let mut lacked = UNMET;
+    let mut from = 1;
+    'classes: while let Some(c) = next_class(mem, idx, q.over, from) {
         while !index::bit(&given, 0, c) {
-            if n <= i {
-                lacked = c;
+            let Some(i) = associations.next() else {
+                lacked = Holding::LackedIn(c);
                 break 'classes;
-            }
+            };
             give_by_index(mem, idx, q, i, &mut given);
-            i += 1;
         }
-        lacked = HELD;
-        c = next_class(mem, idx, q.over, c + 1);
+        lacked = Holding::Held;
+        from = c + 1;
     }
     lacked
 }
 
-// What lacks for the right to be held: nothing (`HELD`), or the lowest class in which no association gives it, 0 where there is no class.
-pub fn lack(mem: &[u32], rows: &[u8], indexed: bool, q: Asking) -> u32
-    requires table { Table mem.now }
-    requires right_bound { q.right < 32 }
-    requires rows { Rows mem.now rows.now indexed q }
-    ensures { result ≡ lack_by (sight mem.now rows.now indexed) (policy_of mem.now) q.user q.right q.element }
-{
-    if indexed {
-        return lack_by_index(mem, rows, q);
+// Rows that tell what lacks for a right.
+pub trait Lacking: Sight {
+    // What lacks for the right to be held.
+    fn lack(&self, mem: &[u32], q: Asking) -> Holding
+        requires table { Table mem.now }
+        requires right_bound { q.right < 32 }
+        requires rows { Rows mem.now (Self.rows self.now) (Self.indexed self.now) q }
+        ensures { result ≡ as_holding (lack_by (sight mem.now (Self.rows self.now) (Self.indexed self.now)) (policy_of mem.now) q.user q.right q.element) };
+}
+
+impl Lacking for Indexed<'_> {
+    fn lack(&self, mem: &[u32], q: Asking) -> Holding {
+        lack_by_index(mem, self.rows, q)
     }
-    lack_by_climb(mem, rows, q)
+}
+
+impl Lacking for Climbed<'_> {
+    fn lack(&self, mem: &[u32], q: Asking) -> Holding {
+        lack_by_climb(mem, self.rows, q)
+    }
 }
 
 // Whether the right is held and not restricted.
-pub fn is_permitted(mem: &[u32], rows: &[u8], indexed: bool, q: Asking) -> bool
+pub fn is_permitted<S: Lacking>(mem: &[u32], rows: &S, q: Asking) -> bool
     requires table { Table mem.now }
     requires right_bound { q.right < 32 }
-    requires rows { Rows mem.now rows.now indexed q }
-    ensures { result ≡ permits (sight mem.now rows.now indexed) (policy_of mem.now) q.process q.user q.right q.element }
+    requires rows { Rows mem.now (S.rows rows.now) (S.indexed rows.now) q }
+    ensures { result ≡ permits (sight mem.now (S.rows rows.now) (S.indexed rows.now)) (policy_of mem.now) q.process q.user q.right q.element }
 {
-    if lack(mem, rows, indexed, q) != HELD {
-        return false;
+    match rows.lack(mem, q) {
+        Holding::Held => !rule::is_restricted(mem, rows, q),
+        Holding::NoClass | Holding::LackedIn(_) => false,
     }
-    !rule::is_restricted(mem, rows, indexed, q)
 }

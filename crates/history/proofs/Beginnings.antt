@@ -19,8 +19,9 @@ use Rattle.model.proofs.Indexed.{index_length}
 use Rattle.model.proofs.Commands.Runs.{empty_sound}
 use Rattle.table.specs.Layout.{word_count}
 use Rattle.table.specs.View.{holds_table, policy_of, memory, empty_table}
-use Rattle.table.specs.Answers.{Left, told, left, new_table}
-use Rattle.table.specs.declared.Outcome.TheVariants.{Done}
+use Rattle.table.specs.Answers.{Left, left, new_table}
+use Rattle.std.specs.Prelude.{Ok}
+use Rattle.answer.specs.Answers as answers
 use Rattle.table.proofs.Test.{of_table}
 use Rattle.table.proofs.Empty.{empty_table_lem, empty_policy_lem}
 use Rattle.index.proofs.Answered.{build_done}
@@ -43,7 +44,7 @@ pub record Started (start : Policy) (words : List ℕ) : Type 0 where
 
 -- an accepted call of new leaves the empty table
 pub new_words : {words : List ℕ} → New words → words ≡ empty_table
-unfolding told new_table
+unfolding answers.told new_table
 new_words n = (accepted_none empty_table (new_lines (eqb (length n.before) word_count)) (sym (ap (λ (l : Left). l.answers) n.call))).1
 
 -- what each beginning is
@@ -52,16 +53,16 @@ started (new {words = words} n) =
     let e = new_words n in
     record { table = rw e (of_table empty_table_lem); policy = rw e empty_policy_lem; sound = empty_sound }
 started (loaded {image = image} {words = words} n) =
-    let p = load_policy image n.before Done words n.call refl in
+    let p = load_policy image n.before (Ok tt) words n.call refl in
     record {
-      table = load_table_lem image n.before Done words n.call refl;
+      table = load_table_lem image n.before (Ok tt) words n.call refl;
       policy = p;
-      sound = subst Sound p (load_sound image n.before Done words n.call refl);
+      sound = subst Sound p (load_sound image n.before (Ok tt) words n.call refl);
     }
 
 -- an accepted call of build leaves the index of the table's policy
 pub built_index : {words bytes : List ℕ} → Built words bytes → bytes ≡ index_of (policy_of words)
-unfolding told build
+unfolding answers.told build
 built_index {words} n =
     (accepted_none (index_of (policy_of words)) (index_lines (lent (memory words) n.before)) (sym (ap (λ (b : Building). b.answers) n.call))).1
 
@@ -73,7 +74,7 @@ begun_kept b i =
 
 -- And there are such beginnings: a new table, the table of any image that is read as a policy, and build on any table.
 pub can_begin : Begun empty_policy empty_table
-unfolding told new_table answer kept
+unfolding answers.told new_table answer kept
 can_begin = new {words = empty_table} (record { before = empty_table; call = rw (eq-eqb (length empty_table) word_count empty_table_lem.size) refl })
 
 pub can_build : (words : List ℕ) → holds_table words ≡ true → Built words (index_of (policy_of words))
@@ -85,7 +86,7 @@ can_build words t = record {
 -- load of any image that is read as a policy, into any memory of the published length
 pub can_load : (image : List ℕ) {p : Policy} → read_image image ≡ accepted p → (before : List ℕ) → length before ≡ word_count
     → Begun (policy_in image) (table_of (policy_in image))
-unfolding read_image load_table told kept
+unfolding read_image load_table answers.told kept
 can_load image h before e = loaded {image = image} {words = table_of (policy_in image)} (record {
   before = before;
   call =
@@ -94,6 +95,6 @@ can_load image h before e = loaded {image = image} {words = table_of (policy_in 
 })
 
 -- new on any memory of the published length
-pub can_new : (before : List ℕ) → length before ≡ word_count → left Done empty_table ≡ new_table before
-unfolding told new_table answer kept
+pub can_new : (before : List ℕ) → length before ≡ word_count → left (Ok tt) empty_table ≡ new_table before
+unfolding answers.told new_table answer kept
 can_new before e = rw (eq-eqb (length before) word_count e) refl

@@ -1,4 +1,4 @@
--- A command that answers `Done` and leaves the policy as it found it meets no contract: a command that is done puts an item that was not there, or
+-- A command that is answered `Ok` and leaves the policy as it found it meets no contract: a command that is done puts an item that was not there, or
 -- removes one that was.
 -- Assumes nothing.
 use mathlib.Core.Path.{◌≡◌, refl, sym, ap, fun_ext, ◌∙◌}
@@ -22,8 +22,8 @@ use Rattle.model.proofs.Commands.Parts.{parts}
 use Rattle.model.proofs.Commands.Keeps.{pair_same}
 use Rattle.model.proofs.Commands.Stands.{has, step_holds}
 use Rattle.table.specs.View.{policy_of}
-use Rattle.table.specs.declared.Outcome.{Outcome}
-use Rattle.table.specs.declared.Outcome.TheVariants.{Done}
+use Rattle.std.specs.Prelude.{Result, Ok}
+use Rattle.answer.specs.declared.Refusal.{Refusal}
 use Rattle.command.specs.Commanded.{Commanded}
 use Rattle.command.proofs.Theorems.{done_exact, went}
 
@@ -135,8 +135,8 @@ module _ (p : Policy) (s : Sound p) where
   changed (end_process i) n = process_goes i (not-false (is_process p i) (none_line n 4))
 
 -- a command that is done on a sound policy leaves another policy
-pub done_changes : {mem idx : List ℕ} {c : Command} {r : Outcome} {mem' idx' : List ℕ} → Sound (policy_of mem) → Commanded mem idx c r mem' idx'
-    → r ≡ Done → policy_of mem' ≡ policy_of mem → ⊥
+pub done_changes : {mem idx : List ℕ} {c : Command} {r : Result (Unit {0}) Refusal} {mem' idx' : List ℕ} → Sound (policy_of mem) → Commanded mem idx c r mem' idx'
+    → r ≡ Ok tt → policy_of mem' ≡ policy_of mem → ⊥
 done_changes {mem} {c = c} s k d e =
     let w = went k ((done_exact k).0 d) in
     changed_other (policy_of mem) s c (changed (policy_of mem) s c w.found.lines) (sym w.policy ∙ e)

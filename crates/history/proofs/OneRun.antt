@@ -11,8 +11,9 @@ use Rattle.model.specs.Calls.{lent, changes_containment}
 use Rattle.model.proofs.Truth.{and_left, and_right}
 use Rattle.model.proofs.Refusals.{Judged, by, clear, judged}
 use Rattle.table.specs.View.{policy_of, memory}
-use Rattle.table.specs.declared.Outcome.{Outcome}
-use Rattle.table.specs.declared.Outcome.TheVariants.{Done, Refused}
+use Rattle.std.specs.Prelude.{Result, Ok, Err}
+use Rattle.answer.specs.declared.Refusal.{Refusal}
+use Rattle.answer.proofs.Numbered.{Numbered, first_number, command_lines_listed, refusal_with}
 use Rattle.table.proofs.Outcomes.{never}
 use Rattle.command.specs.Commanded.{Commanded, words_after}
 use Rattle.command.proofs.Performed.{refused_so, done_so}
@@ -21,7 +22,7 @@ use Rattle.history.specs.Steps.{Step, Meets, Run, none, then, commands_of, Ran}
 
 -- what a command on these words and bytes may answer and leave
 record Made (words bytes : List ℕ) (c : Command) : Type 0 where
-  outcome : Outcome
+  outcome : Result (Unit {0}) Refusal
   words' : List ℕ
   bytes' : List ℕ
   call : Commanded words bytes c outcome words' bytes'
@@ -31,10 +32,12 @@ made : (words bytes : List ℕ) (c : Command) → Made words bytes c
 made words bytes c = go (judged (command_lines (lent (memory words) bytes) (policy_of words) c))
   where
     go : Judged (command_lines (lent (memory words) bytes) (policy_of words) c) → Made words bytes c
-    go (by {n = n} f) = record { outcome = Refused n; words' = words; bytes' = bytes; call = refused_so words bytes c f }
+    go (by {n = n} f) =
+        let x : Numbered n = refusal_with (first_number (command_lines_listed (lent (memory words) bytes) (policy_of words) c) f) in
+        record { outcome = Err x.why; words' = words; bytes' = bytes; call = refused_so words bytes c x.why (rw x.its_number f) }
     go (clear f) =
         let bytes' = cond (changes_containment c) (index_of (policy_of (words_after words c))) bytes in
-        record { outcome = Done; words' = words_after words c; bytes' = bytes'; call = done_so words bytes c f refl refl }
+        record { outcome = Ok tt; words' = words_after words c; bytes' = bytes'; call = done_so words bytes c f refl refl }
 
 -- So there is a run of any commands that a caller can pass, from any words and any bytes.
 pub run_exists : (words bytes : List ℕ) (commands : List Command) → all_of fits commands ≡ true → Ran words bytes commands

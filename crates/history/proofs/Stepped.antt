@@ -10,8 +10,9 @@ use Rattle.model.specs.Calls.{kept, command}
 use Rattle.model.proofs.Commands.Stands.{step_holds}
 use Rattle.table.specs.View.{policy_of}
 use Rattle.table.specs.Answers.{told}
-use Rattle.table.specs.declared.Outcome.{Outcome}
-use Rattle.table.specs.declared.Outcome.TheVariants.{Done, Refused}
+use Rattle.std.specs.Prelude.{Result, Ok, Err}
+use Rattle.answer.specs.declared.Refusal.{Refusal}
+use Rattle.answer.specs.Answers as answers
 use Rattle.command.proofs.Theorems.{policy_after, table_stays, index_kept, sound_stays}
 use Rattle.history.specs.Steps.{Step, Meets, is_done}
 use Rattle.history.proofs.Beginnings.{Kept}
@@ -27,17 +28,17 @@ step_kept s m k = record {
 -- the policy after a step: the one after the command where it was done, else the one before
 pub step_policy : (s : Step) → Meets s
     → policy_of s.words' ≡ cond (is_done s.outcome) (after (policy_of s.words) s.command) (policy_of s.words)
-unfolding command kept told is_done
+unfolding command kept answers.told is_done
 step_policy s m =
     policy_after m.call
     ∙ ap (λ a. kept a (after (policy_of s.words) s.command) (policy_of s.words)) (sym m.call.answers)
     ∙ go s.outcome
   where
-    go : (r : Outcome)
+    go : (r : Result (Unit {0}) Refusal)
         → kept (told r (policy_of s.words')) (after (policy_of s.words) s.command) (policy_of s.words)
         ≡ cond (is_done r) (after (policy_of s.words) s.command) (policy_of s.words)
-    go Done = refl
-    go (Refused n) = refl
+    go (Ok x) = refl
+    go (Err x) = refl
 
 -- what stands after the step's command, if it was done, and more commands is what stands after those from where the step led
 pub step_stands : (s : Step) → Meets s → Sound (policy_of s.words) → (log : List Command) (i : Item)

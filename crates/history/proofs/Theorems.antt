@@ -10,7 +10,7 @@ use Rattle.model.specs.History.{Item, holds, stands}
 use Rattle.model.specs.Index.{bit_at}
 use Rattle.model.proofs.Chains.{acyclic_says, reaches_class}
 use Rattle.table.specs.View.{policy_of}
-use Rattle.table.specs.declared.Outcome.TheVariants.{Done}
+use Rattle.std.specs.Prelude.{Ok}
 use Rattle.decide.proofs.Theorems.{indexed_as_plain}
 use Rattle.history.specs.Steps.{Begun, Built, Step, Run, none, then, log_of}
 use Rattle.history.specs.Standing.{Contained, Standing}
@@ -70,10 +70,10 @@ around b i front s back r =
     let a = run_at front s r in
     (history b i a.before, history b i (run_join a.before (then s a.meets none)))
 
--- No step that was answered `Done` leaves the policy that it found: "leaves the table as found" is none of the runs.
+-- No step that was done leaves the policy that it found: "leaves the table as found" is none of the runs.
 pub not_as_found : {start : Policy} {words bytes : List ℕ} → Begun start words → Built words bytes
     → (front : List Step) (s : Step) (back : List Step) {words' bytes' : List ℕ} → Run words bytes (front ++ (s ∷ back)) words' bytes'
-    → s.outcome ≡ Done → policy_of s.words' ≡ policy_of s.words → ⊥
+    → s.outcome ≡ Ok tt → policy_of s.words' ≡ policy_of s.words → ⊥
 not_as_found b i front s back r =
     let a = run_at front s r in
     done_changes (run_kept (begun_kept b i) a.before).sound a.meets.call

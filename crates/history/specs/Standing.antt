@@ -1,6 +1,6 @@
 -- What is true of the last words and the last bytes of a run: demand 3.
 -- Assumes nothing.
-use Rattle.std.specs.Prelude.{◌≡◌, true, List, ◌↔◌, ◌⊎◌, ℕ, ◌<◌, eqb, length}
+use Rattle.std.specs.Prelude.{◌≡◌, Result, true, List, ◌↔◌, ◌⊎◌, ℕ, ◌<◌, eqb, length}
 use Rattle.model.specs.Lists.{In}
 use Rattle.model.specs.Policy.{Element, Policy, is_there}
 use Rattle.model.specs.Contain.{Chain}
@@ -16,6 +16,7 @@ use Rattle.table.specs.Layout.{word_count}
 use Rattle.table.specs.View.{policy_of, memory}
 use Rattle.request.specs.declared.Request.{Request}
 use Rattle.request.specs.Asks.{request_of}
+use Rattle.answer.specs.declared.Refusal.{Refusal}
 use Rattle.decide.specs.Answers.{told}
 use Rattle.decide.specs.declared.Decision.{Decision}
 use Rattle.history.specs.Steps.{Step, log_of}
@@ -58,4 +59,4 @@ pub record Standing (start : Policy) (steps : List Step) (words bytes : List ℕ
   pub never_one : NeverOne words
   -- "a request answered from the index gets the same refusal, grant or deny as the plain search, for every process, operation and argument": any
   -- two results that the contracts of the two decisions allow
-  pub alike : (q : Request) (r s : Decision) → told r ≡ decide (memory words) (request_of q) → told s ≡ decide_indexed (memory words) bytes (request_of q) → r ≡ s
+  pub alike : (q : Request) (r s : Result Decision Refusal) → told r ≡ decide (memory words) (request_of q) → told s ≡ decide_indexed (memory words) bytes (request_of q) → r ≡ s

@@ -14,6 +14,11 @@ use Rattle.model.specs.Image.{policy_in, image_lines, breaks_rule, names_wrong}
 use Rattle.model.proofs.Truth.{or_right, not_so, fails_when, clash}
 use Rattle.model.proofs.Image.Counts.{each_rises}
 use Rattle.model.proofs.Refusals.{first_given, refusal_first}
+use Rattle.std.specs.Prelude.{Result, Ok}
+use Rattle.std.specs.declared.ops.ControlFlow.TheVariants.{Continue}
+use Rattle.std.specs.Result.{result_from_control_flow}
+use Rattle.answer.specs.declared.Refusal.{Refusal}
+use Rattle.answer.specs.Answers.{refusal_in}
 use Rattle.table.specs.View.{holds_table, policy_of}
 use Rattle.table.proofs.Test.{table_of_lem}
 use Rattle.measure.specs.Places.{Uncut}
@@ -51,6 +56,14 @@ nothing e h = omega arith
 -- what the sizes pass has all its fields
 pub uncut : (s : List ℕ) {n : ℕ} → n ≡ refusal (size_lines s) → n ≤ 0 → Uncut s
 uncut s e h = accepted.uncut s (nothing e h)
+
+-- so has what they were asked of where that went on
+pub went_uncut : (s : List ℕ) {r : Result (Unit {0}) Refusal} {b : _} {x : Unit {0}}
+    → refusal_in r ≡ refusal (size_lines s) → r ≡ result_from_control_flow b → b ≡ Continue x → Uncut s
+went_uncut s {r} {b} {x} e f g =
+    let h : r ≡ Ok x = f ∙ ap result_from_control_flow g in
+    let k : 0 ≡ refusal (size_lines s) = ap refusal_in (sym h) ∙ e in
+    uncut s k (omega arith)
 
 -- 11 or 12 is the image's number
 pub sizes_tell : (s words : List ℕ) {n : ℕ} → n ≡ refusal (size_lines s) → 0 < n → Read s n words

@@ -13,13 +13,17 @@ use Rattle.model.specs.Refusal.{next, past, refused, accepted, answer, refusal}
 use Rattle.model.specs.Image.{policy_in, image_lines, load_lines}
 use Rattle.model.specs.Calls.{kept}
 use Rattle.model.proofs.Refusals.{first_refused, none_accepted, refusal_none, refusal_first}
-use Rattle.table.specs.declared.Outcome.TheVariants.{Done, Refused}
-use Rattle.table.specs.Answers.{told, left}
+use Rattle.std.specs.Prelude.{Ok, Err}
+use Rattle.answer.specs.declared.Refusal.{Refusal}
+use Rattle.answer.specs.declared.Refusal.TheVariants.{NoTable}
+use Rattle.answer.specs.Answers.{number_of, told}
+use Rattle.answer.proofs.Told.{number_low}
+use Rattle.table.specs.Answers.{left}
 use Rattle.unpack.specs.Words.{table_of}
 use Rattle.image.specs.Answers.{load_table, Read, Ended}
 
 -- another length
-pub other_length : (s words : List ℕ) → (length words ≡ 8192 → ⊥) → left (Refused 1) words ≡ load_table s words
+pub other_length : (s words : List ℕ) → (length words ≡ 8192 → ⊥) → left (Err NoTable) words ≡ load_table s words
 unfolding load_table told answer kept
 other_length s words h = rw (ne_eqb (length words) 8192 h)
 
@@ -37,17 +41,17 @@ accepted_as s words e r h =
     zero_is h = omega arith
 
 -- the image is refused
-pub image_refused : (s words fresh : List ℕ) {n : ℕ} → length words ≡ 8192 → Read s n fresh → 0 < n → left (Refused n) words ≡ load_table s words
+pub image_refused : (s words fresh : List ℕ) (x : Refusal) → length words ≡ 8192 → Read s (number_of x) fresh → left (Err x) words ≡ load_table s words
 unfolding load_table told kept
-image_refused s words fresh e r h = rw (refused_as s words e r.number_is h)
+image_refused s words fresh x e r = rw (refused_as s words e r.number_is (number_low x))
 
 -- an accepted image's words hold a table with zeros behind its end
-pub image_ended : (s fresh : List ℕ) {n : ℕ} → Read s n fresh → n ≤ 0 → Ended fresh
-image_ended s fresh r h = r.words_end (omega arith)
+pub image_ended : (s fresh : List ℕ) → Read s 0 fresh → Ended fresh
+image_ended s fresh r = r.words_end refl
 
 -- the image is accepted
-pub image_stored : (s words words' fresh : List ℕ) {n : ℕ} → length words ≡ 8192 → Read s n fresh → n ≤ 0 → words' ≡ fresh → left Done words' ≡ load_table s words
+pub image_stored : (s words words' fresh : List ℕ) → length words ≡ 8192 → Read s 0 fresh → words' ≡ fresh → left (Ok tt) words' ≡ load_table s words
 unfolding load_table told kept
-image_stored s words words' fresh e r h w =
-    let k : words' ≡ table_of (policy_in s) = w ∙ r.words_are (omega arith) in
-    rw (accepted_as s words e r.number_is h, k)
+image_stored s words words' fresh e r w =
+    let k : words' ≡ table_of (policy_in s) = w ∙ r.words_are refl in
+    rw (accepted_as s words e r.number_is (omega arith), k)

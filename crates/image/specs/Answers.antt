@@ -1,16 +1,16 @@
 -- What load and save answer and leave, every word and byte.
 -- Assumes nothing.
-use Rattle.std.specs.Prelude.{◌≡◌, cond, List, [], ◌∷◌, ℕ, ◌-◌, eqb, ltb, length, drop, replicate}
-use Rattle.model.specs.Refusal.{◌when◌, Answer, refused, accepted, answer, refusal}
+use Rattle.std.specs.Prelude.{◌≡◌, Result, cond, List, [], ◌∷◌, ℕ, ◌-◌, eqb, ltb, length, drop, replicate}
+use Rattle.model.specs.Refusal.{◌when◌, Answer, answer, refusal}
 use Rattle.model.specs.Image.{policy_in, image_lines, load_lines, breaks_rule, names_wrong}
 use Rattle.model.specs.Calls.{Saving, kept}
+use Rattle.answer.specs.declared.Refusal.{Refusal}
+use Rattle.answer.specs.Answers as answers
 use Rattle.table.specs.Layout.{word_count, association_count, prohibition_count, association_start, prohibition_start}
 use Rattle.table.specs.View.{holds_table, policy_of}
 use Rattle.table.specs.Facts.{Table}
 use Rattle.table.specs.Answers.{Left}
 use Rattle.unpack.specs.Words.{table_of}
-use Rattle.image.specs.declared.Saved.{Saved}
-use Rattle.image.specs.declared.Saved.TheVariants.{Length, Refused}
 
 -- Load: refused as 01's lines say, the words as they were; else every word is the table's of the policy that the image spells
 unfoldable pub load_table : (image words : List ℕ) → Left
@@ -40,11 +40,10 @@ pub record Read (image : List ℕ) (number : ℕ) (words : List ℕ) : Type 0 wh
   pub words_are : number ≡ 0 → words ≡ table_of (policy_in image)
   pub words_end : number ≡ 0 → Ended words
 
--- `Length`: saved, in so many bytes; `Refused`: the refusal number
-unfoldable pub saved : Saved → Answer ℕ
-saved (Length n) = accepted n
-saved (Refused n) = refused n
+-- `Ok`: saved, in so many bytes; `Err`: the refusal's number
+abbrev pub saved : Result ℕ Refusal → Answer ℕ
+saved r = answers.told (λ n. n) r
 
 -- what a call of save answers, and the bytes that it leaves
-abbrev pub left : Saved → (bytes : List ℕ) → Saving
+abbrev pub left : Result ℕ Refusal → (bytes : List ℕ) → Saving
 left r bytes = record { answers = saved r; leaves = bytes }

@@ -3,47 +3,38 @@
 
 ghost use Rattle.std.specs.Prelude.{◌≡◌, length, replicate};
 ghost use Rattle.model.specs.Calls.{save as saving};
+ghost use Rattle.answer.specs.Answers.{refusal_in};
 ghost use Rattle.table.specs.View.{memory};
 ghost use Rattle.table.specs.Facts.{Table, AtMost};
 ghost use Rattle.table.specs.Answers.{left as left_words};
 ghost use Rattle.image.specs.Answers.{load_table, table_refusal, table_end, Read, Ended, left};
 
-use table::Outcome;
+use answer::Refusal;
 
-// What save answers: how many bytes the image takes, or a refusal number.
-#[derive(Clone, Copy)]
-pub enum Saved {
-    Length(usize),
-    Refused(u32),
-}
-
-// 13 or 14, the first that holds of the words that an image's records were laid into, 0 where neither does.
-fn table_refusal(mem: &[u32]) -> u32
-    ensures { result ≡ table_refusal mem.now }
+// Refused with 13 or 14, the first that holds of the words that an image's records were laid into.
+fn table_refusal(mem: &[u32]) -> Result<(), Refusal>
+    ensures { refusal_in result ≡ table_refusal mem.now }
 {
     if !table::holds(mem) {
-        return 13;
+        return Err(Refusal::BreaksRule);
     }
     if ranges::breaks_rule(mem) {
-        return 13;
+        return Err(Refusal::BreaksRule);
     }
     if links::names_wrong(mem) {
-        return 14;
+        return Err(Refusal::NamesWrong);
     }
-    0
+    Ok(())
 }
 
-// The image's refusal number, 11 to 14; 0 where it is accepted, and then the words, all zero at first, are the table of its policy.
-fn read(s: &[u8], mem: &mut [u32]) -> u32
+// The image's refusal, 11 to 14; where it is accepted the words, all zero at first, are then the table of its policy.
+fn read(s: &[u8], mem: &mut [u32]) -> Result<(), Refusal>
     requires { mem.old ≡ replicate 8192 0 }
-    ensures { Read s.now result mem.new }
+    ensures { Read s.now (refusal_in result) mem.new }
 {
-    let sizes = measure::refusal(s);
-    if 0 < sizes {
-        return sizes;
-    }
+    measure::refusal(s)?;
     if !screen::is_stowable(s) {
-        return 13;
+        return Err(Refusal::BreaksRule);
     }
     table::mark(mem);
     unpack::unpack(s, mem);
@@ -74,32 +65,29 @@ fn copy(mem: &mut [u32], fresh: &[u32])
 }
 
 // Makes the memory the table of the image's policy, or refuses: 1 for the memory's length, 11 to 14 for the image.
-pub fn load(mem: &mut [u32], s: &[u8]) -> Outcome
+pub fn load(mem: &mut [u32], s: &[u8]) -> Result<(), Refusal>
     ensures { left_words result mem.new ≡ load_table s.now mem.old }
 {
     if mem.len() != table::WORDS {
-        return Outcome::Refused(1);
+        return Err(Refusal::NoTable);
     }
     let mut fresh = [0u32; 8192];
-    let n = read(s, &mut fresh);
-    if 0 < n {
-        return Outcome::Refused(n);
-    }
+    read(s, &mut fresh)?;
     copy(mem, &fresh);
-    Outcome::Done
+    Ok(())
 }
 
 // Writes the table's image into the front of the lent bytes, or refuses: 1 where the memory holds no table, 10 where the bytes are too few.
-pub fn save(mem: &[u32], out: &mut [u8]) -> Saved
+pub fn save(mem: &[u32], out: &mut [u8]) -> Result<usize, Refusal>
     ensures { left result out.new ≡ saving (memory mem.now) out.old }
 {
     if !table::holds(mem) {
-        return Saved::Refused(1);
+        return Err(Refusal::NoTable);
     }
     let n = weigh::byte_count(mem);
     if out.len() < n {
-        return Saved::Refused(10);
+        return Err(Refusal::NoRoom);
     }
     pack::pack(mem, &mut out[0..n]);
-    Saved::Length(n)
+    Ok(n)
 }

@@ -12,7 +12,7 @@ use lib.Dec.{eqb}
 use lib.Bits.{bit_or, or_shr, or_mod, or_lt, or_add_and, and_le_r}
 use lib.ListN.{length, get_or, set, get_or-eq_default}
 use Rattle.model.specs.Index.{bit_at}
-use Rattle.index.specs.Rows.{On, sum, both, Joined}
+use Rattle.index.specs.Rows.{On, sum, both}
 
 -- 0 has no bit
 pub no_bit : (j : ℕ) → 0 / 2 ^ j % 2 ≡ 1 → ⊥
@@ -71,6 +71,12 @@ both_more x y = omega (arith, or_add_and x y, and_le_r x y)
 pub both_byte : (x y : ℕ) → x < 256 → y < 256 → both x y < 256
 unfolding both
 both_byte x y = or_lt 8 x y
+
+-- r is the byte with the bits of x and of y; it is no less than x
+pub record Joined (x y r : ℕ) : Type 0 where
+  pub is : r ≡ both x y
+  pub more : x ≤ r
+  pub byte : r < 256
 
 -- what the code joins is that byte
 pub joined : (x y : ℕ) → x < 256 → y < 256 → Joined x y (bit_or x y)

@@ -10,7 +10,7 @@ use native.Mathlib.Decide.{dec_lt}
 use lib.ListN.{length, get_or, set, replicate, length-set, length-replicate, get_or-replicate, get_or-eq_default}
 use lib.Seq.{get_or-set_same, get_or-set_other}
 use Rattle.model.specs.Index.{bit_at}
-use Rattle.index.specs.Rows.{Joined, RowJoined}
+use Rattle.index.specs.Rows.{both, RowJoined}
 use Rattle.index.proofs.Bytes.{or_bits, both_bit}
 
 -- nothing is added yet
@@ -19,12 +19,12 @@ joined_none idx x row = record { size = refl; done = λ j l. absurd (omega arith
 
 -- one byte more is added
 pub joined_more : {idx : List ℕ} {x k : ℕ} {row row' : List ℕ} {v : ℕ} → length row ≡ 64 → RowJoined idx x k row row' → k < 64
-    → Joined (get_or row' k 0) (get_or idx (64 * x + k) 0) v → RowJoined idx x (k + 1) row (set row' k v)
+    → v ≡ both (get_or row' k 0) (get_or idx (64 * x + k) 0) → RowJoined idx x (k + 1) row (set row' k v)
 joined_more {idx} {x} {k} {row} {row'} {v} len o hk b = record {
   size = length-set row' k v ∙ o.size;
   done = λ i l. elim (dec_lt i k) [
     | yes h ↦ get_or-set_other row' k i v 0 (λ e. omega arith) ∙ o.done i h
-    | no h ↦ let e : i ≡ k = omega arith in rw e (get_or-set_same row' k v 0 (omega (arith, o.size)) ∙ b.is ∙ rw (o.rest k (omega arith)) refl)
+    | no h ↦ let e : i ≡ k = omega arith in rw e (get_or-set_same row' k v 0 (omega (arith, o.size)) ∙ b ∙ rw (o.rest k (omega arith)) refl)
   ];
   rest = λ i l. get_or-set_other row' k i v 0 (λ e. omega arith) ∙ o.rest i (omega arith);
 }
@@ -43,7 +43,7 @@ joined_bit {idx} {x} {row} {row'} o y h =
     (or_bits (get_or row (y / 8) 0 / 2 ^ (7 - y % 8) % 2) (get_or idx (64 * x + y / 8) 0 / 2 ^ (7 - y % 8) % 2) (omega arith) (omega arith))
 
 -- in zeros each byte is 0, the bytes past the last too
-zeros : (n i : ℕ) → get_or {A = ℕ} (replicate n 0) i 0 ≡ 0
+pub zeros : (n i : ℕ) → get_or {A = ℕ} (replicate n 0) i 0 ≡ 0
 zeros n i = elim (dec_lt i n) [
   | yes h ↦ get_or-replicate {A = ℕ} n i 0 0 h
   | no h ↦ get_or-eq_default {A = ℕ} (replicate n 0) 0 (omega (arith, length-replicate {A = ℕ} n 0))

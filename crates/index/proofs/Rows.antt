@@ -1,4 +1,4 @@
--- A row added to another, and a row cleared: the turns of the loops over their bytes, and what they do to the bits.
+-- A row added to another, by the turns of the loop over its bytes, and a row cleared: what they do to the bits.
 -- Assumes nothing.
 use mathlib.Core.Path.{◌≡◌, refl, ◌∙◌}
 use mathlib.Core.List.{List}
@@ -8,8 +8,8 @@ use native.Mathlib.Omega.{arith}
 use native.Mathlib.Decide.{ℕ_discrete, dec_lt}
 use lib.ListN.{length, get_or, set, length-set}
 use lib.Seq.{get_or-set_same, get_or-set_other}
-use Rattle.index.specs.Rows.{On, both, Joined, Added, Cleared}
-use Rattle.index.proofs.Bytes.{no_bit, bit_of, bit_left, bit_right, both_more, both_byte, sum_set}
+use Rattle.index.specs.Rows.{On, both, Added, Cleared}
+use Rattle.index.proofs.Bytes.{Joined, no_bit, bit_of, bit_left, bit_right, both_more, both_byte, sum_set}
 
 -- nothing is added yet
 pub added_none : (idx : List ℕ) (a b : ℕ) → Added idx a b 0 0 idx
@@ -118,27 +118,6 @@ module _ {idx : List ℕ} {a b r : ℕ} {idx' : List ℕ} (o : Added idx a b 64 
   -- bytes stay bytes
   pub bytes_still : ((i : ℕ) → get_or idx i 0 < 256) → (i : ℕ) → get_or idx' i 0 < 256
   bytes_still h = bytes_by (λ x y. y < 256) h (λ i j. both_byte _ _ (h i) (h j))
-
--- nothing is cleared yet
-pub cleared_none : (idx : List ℕ) (a : ℕ) → Cleared idx a 0 idx
-cleared_none idx a = record { size = refl; row = λ j l. absurd (omega arith); below = λ i l. refl; above = λ i l. refl }
-
--- one byte more is cleared
-pub cleared_more : {idx : List ℕ} {a k : ℕ} {idx' : List ℕ} → length idx ≡ 32768 → a < 512 → Cleared idx a k idx' → k < 64
-    → Cleared idx a (k + 1) (set idx' (64 * a + k) 0)
-cleared_more {idx} {a} {k} {idx'} len ha o hk = record {
-  size = length-set idx' (64 * a + k) 0 ∙ o.size;
-  row = λ i l. elim (dec_lt i k) [
-    | yes h ↦ get_or-set_other idx' (64 * a + k) (64 * a + i) 0 0 (λ e. omega arith) ∙ o.row i h
-    | no h ↦ let e : i ≡ k = omega arith in rw e (get_or-set_same idx' (64 * a + k) 0 0 (omega (arith, o.size)))
-  ];
-  below = λ i l. get_or-set_other idx' (64 * a + k) i 0 0 (λ e. omega arith) ∙ o.below i l;
-  above = λ i l. get_or-set_other idx' (64 * a + k) i 0 0 (λ e. omega arith) ∙ o.above i (omega arith);
-}
-
--- the whole row is cleared
-pub cleared_end : {idx : List ℕ} {a k : ℕ} {idx' : List ℕ} → Cleared idx a k idx' → k ≤ 64 → 64 ≤ k → Cleared idx a 64 idx'
-cleared_end {idx} {a} {k} {idx'} o h l = let e : k ≡ 64 = omega arith in rw e at o
 
 module _ {idx : List ℕ} {a : ℕ} {idx' : List ℕ} (o : Cleared idx a 64 idx') where
   -- the byte of another row

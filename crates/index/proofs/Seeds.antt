@@ -1,6 +1,6 @@
 -- The start: the bytes of a table without assignments, where each element that is there is within itself.
 -- Assumes nothing.
-use mathlib.Core.Path.{◌≡◌, refl, sym, ◌∙◌}
+use mathlib.Core.Path.{◌≡◌, refl, sym, ap, ◌∙◌}
 use mathlib.Core.Bool.{Bool, true, false}
 use mathlib.Core.List.{List}
 use mathlib.Core.Logic.{inr}
@@ -9,7 +9,7 @@ use native.Mathlib.Omega.{arith}
 use native.Mathlib.Decide.{ℕ_discrete, dec_lt}
 use borrow.Author.Tests.{eqb-true, eq-eqb, ne_eqb}
 use lib.Dec.{eqb}
-use lib.ListN.{length, get_or, set, length-set, get_or-eq_default}
+use lib.ListN.{length, get_or, set, replicate, length-set, length-replicate}
 use lib.Seq.{get_or-set_same, get_or-set_other}
 use Rattle.model.specs.Lists.{tabulate}
 use Rattle.model.specs.Policy.{kind_of, is_there}
@@ -20,9 +20,10 @@ use Rattle.model.proofs.Indexed.{bit_of_byte, length_tabulate}
 use Rattle.model.proofs.Image.Bits.{num_lt}
 use Rattle.table.specs.View.{policy_of}
 use Rattle.table.proofs.ById.{kind_outside}
-use Rattle.index.specs.Rows.{On, Zeroed}
+use Rattle.index.specs.Rows.{On}
 use Rattle.index.specs.Passes.{There, Inside, RowSeeded, Seeded, Good}
 use Rattle.index.proofs.Bytes.{no_bit, sum_le}
+use Rattle.index.proofs.Joins.{zeros}
 
 -- the eight bytes with one bit
 one_bit : (j : ℕ) → j < 8 → 128 / 2 ^ j ≡ num_of (tabulate 8 (eqb j))
@@ -72,24 +73,6 @@ there_small {mem} {x} t = elim (dec_lt x 512) [
   | no h ↦ absurd (kind_absent (kind_outside mem x (inr (omega arith))) refl t)
 ]
 
--- no byte is zero yet
-pub zeroed_none : (idx : List ℕ) → Zeroed idx 0 idx
-zeroed_none idx = record { size = refl; done = λ i l. absurd (omega arith) }
-
--- one byte more is zero
-pub zeroed_more : {idx : List ℕ} {n : ℕ} {idx' : List ℕ} → Zeroed idx n idx' → n < length idx' → Zeroed idx (n + 1) (set idx' n 0)
-zeroed_more {idx} {n} {idx'} z h = record {
-  size = length-set idx' n 0 ∙ z.size;
-  done = λ i l. elim (dec_lt i n) [
-    | yes b ↦ get_or-set_other idx' n i 0 0 (λ e. omega arith) ∙ z.done i b
-    | no b ↦ let e : i ≡ n = omega arith in rw e (get_or-set_same idx' n 0 0 h)
-  ];
-}
-
--- all bytes are zero
-pub zeroed_end : {idx : List ℕ} {n : ℕ} {idx' : List ℕ} → Zeroed idx n idx' → length idx' ≤ n → Zeroed idx (length idx) idx'
-zeroed_end z h = record { size = z.size; done = λ i l. z.done i (omega (arith, z.size)) }
-
 module _ {mem : List ℕ} {x : ℕ} {idx : List ℕ} {k : ℕ} where
   -- an element that is not there gets no bit
   pub seed_none : k ≡ kind_of (policy_of mem) x → k ≡ 0 → RowSeeded mem x idx idx
@@ -106,19 +89,16 @@ module _ {mem : List ℕ} {x : ℕ} {idx : List ℕ} {k : ℕ} where
   }
 
 -- where all bytes are zero no bit is 1
-pub seeded_none : {mem idx idx' : List ℕ} → length idx ≡ 32768 → Zeroed idx (length idx) idx' → Seeded mem 0 idx'
-seeded_none {mem} {idx} {idx'} len z = record {
-  size = z.size ∙ len;
+pub seeded_none : {mem idx : List ℕ} {n : ℕ} → idx ≡ replicate n 0 → n ≡ 32768 → Seeded mem 0 idx
+seeded_none {mem} {idx} {n} z len = record {
+  size = ap length z ∙ length-replicate n 0 ∙ len;
   bytes = λ i. omega (arith, zero_at i);
   sound = λ p. absurd (no_bit _ (rw (zero_at _) at p.is));
   start = λ t h. absurd (omega arith);
 }
   where
-    zero_at : (i : ℕ) → get_or idx' i 0 ≡ 0
-    zero_at i = elim (dec_lt i (length idx)) [
-      | yes b ↦ z.done i b
-      | no b ↦ get_or-eq_default idx' 0 {n = i} (omega (arith, z.size))
-    ]
+    zero_at : (i : ℕ) → get_or idx i 0 ≡ 0
+    zero_at i = rw z (zeros n i)
 
 module _ {mem : List ℕ} {n : ℕ} {idx idx' : List ℕ} (s : Seeded mem n idx) (h : n < 512) (o : RowSeeded mem n idx idx') where
   module _ (t : There mem n) where

@@ -17,12 +17,6 @@ sum (x ∷ l) = x + sum l
 unfoldable pub both : (x y : ℕ) → ℕ
 both x y = bit_or x y
 
--- r is the byte with the bits of x and of y; it is no less than x
-pub record Joined (x y r : ℕ) : Type 0 where
-  pub is : r ≡ both x y
-  pub more : x ≤ r
-  pub byte : r < 256
-
 -- row b is added to row a, in its first k bytes, which makes the sum of all bytes grow by r; every other byte stays
 pub record Added (idx : List ℕ) (a b k r : ℕ) (idx' : List ℕ) : Type 0 where
   pub size : length idx' ≡ length idx
@@ -38,11 +32,6 @@ pub record Cleared (idx : List ℕ) (a k : ℕ) (idx' : List ℕ) : Type 0 where
   pub row : (j : ℕ) → j < k → get_or idx' (64 * a + j) 0 ≡ 0
   pub below : (i : ℕ) → i < 64 * a → get_or idx' i 0 ≡ get_or idx i 0
   pub above : (i : ℕ) → 64 * a + k ≤ i → get_or idx' i 0 ≡ get_or idx i 0
-
--- the first n bytes are 0
-pub record Zeroed (idx : List ℕ) (n : ℕ) (idx' : List ℕ) : Type 0 where
-  pub size : length idx' ≡ length idx
-  pub done : (i : ℕ) → i < n → get_or idx' i 0 ≡ 0
 
 -- row x is added to a row that stands by itself, in its first k bytes; every other byte stays
 pub record RowJoined (idx : List ℕ) (x k : ℕ) (row row' : List ℕ) : Type 0 where

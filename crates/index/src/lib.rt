@@ -8,31 +8,11 @@ ghost use Rattle.model.specs.Calls.{build as building, is_index};
 ghost use Rattle.table.specs.Layout.{assignment_count};
 ghost use Rattle.table.specs.View.{policy_of, memory};
 ghost use Rattle.table.specs.Facts.{Table};
-ghost use Rattle.index.specs.Rows.{Joined, Added, Cleared, Zeroed, RowJoined};
+ghost use Rattle.index.specs.Rows.{Added, Cleared, RowJoined};
 ghost use Rattle.index.specs.Passes.{RowSeeded, Good, Stepped, Climbed, Passed, Rounded, Full, RowTidied, Tidied};
 ghost use Rattle.index.specs.Answers.{left, matched};
 
-// Whether an index is the table's.
-#[derive(Clone, Copy)]
-pub enum Matching {
-    Same,
-    Other,
-    Refused(u32),
-}
-
-// A byte as a word.
-fn wide(x: u8) -> u32
-    ensures { result ≡ x }
-{
-    x as u32
-}
-
-// The byte with the bits of both.
-fn join(x: u8, y: u8) -> u8
-    ensures { Joined x y result }
-{
-    x | y
-}
+use answer::Refusal;
 
 // The bit of x and y: 0 where the bytes do not reach.
 pub fn bit(idx: &[u8], x: u32, y: u32) -> bool
@@ -53,10 +33,8 @@ pub fn join_row(idx: &[u8], x: u32, row: &mut [u8])
     requires row_len { length row.old ≡ 64 }
     ensures { RowJoined idx.now x 64 row.old row.new }
 {
-    let mut k = 0;
-    while k < 64 {
-        row[k] = join(row[k], idx[64 * (x as usize) + k]);
-        k += 1;
+    for k in 0..64 {
+        row[k] |= idx[64 * (x as usize) + k];
     }
 }
 
@@ -68,13 +46,11 @@ fn add_row(idx: &mut [u8], a: usize, b: usize) -> u32
     ensures { Added idx.old a b 64 result idx.new }
 {
     let mut grew = 0;
-    let mut k = 0;
-    while k < 64 {
+    for k in 0..64 {
         let old = idx[64 * a + k];
-        let new = join(old, idx[64 * b + k]);
+        let new = old | idx[64 * b + k];
         idx[64 * a + k] = new;
-        grew += wide(new - old);
-        k += 1;
+        grew += u32::from(new - old);
     }
     grew
 }
@@ -85,22 +61,7 @@ fn clear_row(idx: &mut [u8], a: usize)
     requires a_bound { a < 512 }
     ensures { Cleared idx.old a 64 idx.new }
 {
-    let mut k = 0;
-    while k < 64 {
-        idx[64 * a + k] = 0;
-        k += 1;
-    }
-}
-
-// Makes every byte zero.
-fn clear(idx: &mut [u8])
-    ensures { Zeroed idx.old (length idx.old) idx.new }
-{
-    let mut i = 0;
-    while i < idx.len() {
-        idx[i] = 0;
-        i += 1;
-    }
+    idx[64 * a..64 * a + 64].fill(0);
 }
 
 // Makes the byte of x and x the one with just their bit, if element x is there.
@@ -122,11 +83,9 @@ fn start(mem: &[u32], idx: &mut [u8])
     requires idx_len { length idx.old ≡ 32768 }
     ensures { Good mem.now idx.new }
 {
-    clear(idx);
-    let mut x = 0;
-    while x < 512 {
+    idx.fill(0);
+    for x in 0..512 {
         seed_row(mem, idx, x);
-        x += 1;
     }
 }
 
@@ -171,11 +130,13 @@ fn climb_from(mem: &[u32], idx: &mut [u8], seen: &mut [u8], x: u32, first: usize
 {
     seen[x as usize] = 1;
     let count = mem[table::ASSIGNMENT_COUNTER] as usize;
-    let mut i = first;
-    while i < count && mem[table::ASSIGNMENTS + i] / 512 == x {
-        climb(mem, idx, seen, mem[table::ASSIGNMENTS + i] % 512, deep);
+    for i in first..count {
+        let word = mem[table::ASSIGNMENTS + i];
+        if word / 512 != x {
+            break;
+        }
+        climb(mem, idx, seen, word % 512, deep);
         step(mem, idx, i);
-        i += 1;
     }
 }
 
@@ -202,10 +163,8 @@ fn climb_all(mem: &[u32], idx: &mut [u8])
 {
     let mut seen = [0u8; 512];
     let count = mem[table::ASSIGNMENT_COUNTER] as usize;
-    let mut i = 0;
-    while i < count {
+    for i in 0..count {
         climb_at(mem, idx, &mut seen, i);
-        i += 1;
     }
 }
 
@@ -217,10 +176,8 @@ fn pass(mem: &[u32], idx: &mut [u8]) -> u32
 {
     let n = mem[table::ASSIGNMENT_COUNTER] as usize;
     let mut grew = 0;
-    let mut i = 0;
-    while i < n {
+    for i in 0..n {
         grew += step(mem, idx, i);
-        i += 1;
     }
     grew
 }
@@ -242,6 +199,7 @@ fn complete(mem: &[u32], idx: &mut [u8])
     ensures { Full mem.now idx.new }
 {
     let mut more = climb_and_pass(mem, idx);
+    // A while: it counts no index, and ends where a pass adds nothing.
     while 0 < more {
         more = climb_and_pass(mem, idx);
     }
@@ -267,10 +225,8 @@ fn tidy(mem: &[u32], idx: &mut [u8])
     ensures { Tidied mem.now (assignment_count mem.now) idx.old idx.new }
 {
     let count = mem[table::ASSIGNMENT_COUNTER] as usize;
-    let mut i = 0;
-    while i < count {
+    for i in 0..count {
         tidy_row(mem, idx, mem[table::ASSIGNMENTS + i] / 512 % 512);
-        i += 1;
     }
 }
 
@@ -286,35 +242,22 @@ pub fn fill(mem: &[u32], idx: &mut [u8])
 }
 
 // Makes the bytes the table's index, or refuses: 1 where the memory holds no table, 2 where there are not 32,768 bytes.
-pub fn build(mem: &[u32], idx: &mut [u8]) -> table::Outcome
+pub fn build(mem: &[u32], idx: &mut [u8]) -> Result<(), Refusal>
     ensures { left result idx.new ≡ building (memory mem.now) idx.old }
 {
     if !table::holds(mem) {
-        return table::Outcome::Refused(1);
+        return Err(Refusal::NoTable);
     }
     if idx.len() != 32768 {
-        return table::Outcome::Refused(2);
+        return Err(Refusal::OutOfRange);
     }
     fill(mem, idx);
-    table::Outcome::Done
+    Ok(())
 }
 
-// Whether two lists of 32,768 bytes are the same. No early exit: many bytes are compared at a time.
-fn are_same(a: &[u8], b: &[u8]) -> bool
-    requires a_len { length a.now ≡ 32768 }
-    requires b_len { length b.now ≡ 32768 }
-    ensures { result ≡ same a.now b.now }
-{
-    let mut alike = true;
-    let mut i = 0;
-    while i < 32768 {
-        alike = alike & (a[i] == b[i]);
-        i += 1;
-    }
-    alike
-}
-
-// Whether the bytes are those of the index of a table.
+// Whether the bytes are those of the index of a table. It stands apart: compiled into a call that can end before its large local is made, clang's
+// code that touches the stack for the local overwrites a register in use.
+#[inline(never)]
 fn is_same(mem: &[u32], idx: &[u8]) -> bool
     requires table { Table mem.now }
     requires idx_len { length idx.now ≡ 32768 }
@@ -322,21 +265,18 @@ fn is_same(mem: &[u32], idx: &[u8]) -> bool
 {
     let mut fresh = [0u8; 32768];
     fill(mem, &mut fresh);
-    are_same(idx, &fresh)
+    idx == fresh.as_slice()
 }
 
 // Whether the bytes are the table's index, with the refusals of `build`.
-pub fn is_index(mem: &[u32], idx: &[u8]) -> Matching
+pub fn is_index(mem: &[u32], idx: &[u8]) -> Result<bool, Refusal>
     ensures { matched result ≡ is_index (memory mem.now) idx.now }
 {
     if !table::holds(mem) {
-        return Matching::Refused(1);
+        return Err(Refusal::NoTable);
     }
     if idx.len() != 32768 {
-        return Matching::Refused(2);
+        return Err(Refusal::OutOfRange);
     }
-    if is_same(mem, idx) {
-        return Matching::Same;
-    }
-    Matching::Other
+    Ok(is_same(mem, idx))
 }

@@ -15,11 +15,11 @@ fn put_digits(out: &mut [u8], at: usize, most: usize, n: u32) -> usize
         return at;
     }
     if n < 10 {
-        out[at] = (48 + n) as u8;
+        out[at] = b'0' + n as u8;
         return at + 1;
     }
     let next = put_digits(out, at, most - 1, n / 10);
-    out[next] = (48 + n % 10) as u8;
+    out[next] = b'0' + (n % 10) as u8;
     next + 1
 }
 
@@ -37,15 +37,12 @@ fn put_numbers(out: &mut [u8], at: usize, ns: &[u32]) -> usize
     requires { at + 11 * length ns.now + 1 ≤ length out.old }
     ensures { Typed (numbers ns.now) at out.old out.new result }
 {
-    let n = ns.len();
     let mut next = at;
-    let mut i = 0;
-    while i < n {
-        let behind = put_letter(out, next, 32);
-        next = put_digits(out, behind, 10, ns[i]);
-        i += 1;
+    for n in ns {
+        let behind = put_letter(out, next, b' ');
+        next = put_digits(out, behind, 10, *n);
     }
-    put_letter(out, next, 10)
+    put_letter(out, next, b'\n')
 }
 
 // Puts a line, a letter and at most five numbers, in front.

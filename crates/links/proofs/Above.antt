@@ -1,11 +1,11 @@
 -- Children that rank above their containers: then no chain of assignments returns to its start.
 -- Assumes nothing.
-use mathlib.Core.Path.{◌≡◌, refl, sym, ap, ◌∙◌}
+use mathlib.Core.Path.{◌≡◌, sym, ap, ◌∙◌}
 use mathlib.Core.Bool.{Bool, true, false, not}
 use mathlib.Core.List.{List}
-use Prim.Native.Nat.{ℕ, ◌+◌, ◌≤◌, ◌<◌}
+use Prim.Native.Nat.{ℕ, ◌≤◌}
 use native.Mathlib.Omega.{arith}
-use borrow.Author.Tests.{lt-ltb, le-ltb, ltb-true}
+use borrow.Author.Tests.{ltb-true}
 use lib.ListN.{get_or}
 use Rattle.model.specs.Lists.{all_of}
 use Rattle.model.specs.Policy.{Assignment, Policy}
@@ -13,27 +13,7 @@ use Rattle.model.specs.Contain.{Within, itself, above, contained}
 use Rattle.model.specs.Sound.{no_cycle}
 use Rattle.model.proofs.Truth.{fails_when, all_in, all_of_lem}
 use Rattle.model.proofs.Contained.{within_says}
-use Rattle.table.specs.Layout.{assignment_count}
-use Rattle.table.specs.View.{assignment_at, assignments_of, policy_of}
-use Rattle.table.proofs.Loops.{AllTo, all_more, all_fails}
 use Rattle.links.specs.Ranks.{is_above}
-
--- One assignment: x is its child, y its container.
-module _ (mem ranks : List ℕ) (i : ℕ) {x : ℕ} (e : x ≡ (assignment_at mem i).child) {y : ℕ} (d : y ≡ (assignment_at mem i).container) where
-  -- its child does not rank above its container
-  pub above_fails : (n : ℕ) → n ≡ assignment_count mem → i < n → get_or ranks x 0 ≤ get_or ranks y 0
-      → false ≡ all_of (is_above ranks) (policy_of mem).assignments
-  unfolding is_above policy_of assignments_of
-  above_fails n count l h =
-      all_fails (is_above ranks) (assignment_at mem) i {b = false} (rw (← e, ← d) (sym (le-ltb (get_or ranks y 0) (get_or ranks x 0) h)))
-      n (assignment_count mem) count l refl
-
-  -- it does
-  pub above_more : {n : ℕ} → AllTo (is_above ranks) (assignment_at mem) n i → i < n → get_or ranks y 0 < get_or ranks x 0
-      → AllTo (is_above ranks) (assignment_at mem) n (i + 1)
-  unfolding is_above
-  above_more s l h =
-      all_more (is_above ranks) (assignment_at mem) i {b = true} (rw (← e, ← d) (sym (lt-ltb (get_or ranks y 0) (get_or ranks x 0) h))) s l refl
 
 -- where each child ranks above its container, nothing is within what ranks above it
 ranks_fall : (ranks : List ℕ) (l : List Assignment) → all_of (is_above ranks) l ≡ true → {x y : ℕ} → Within l x y → get_or ranks y 0 ≤ get_or ranks x 0

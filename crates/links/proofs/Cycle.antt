@@ -1,9 +1,9 @@
 -- Whether a chain of assignments returns to its start, by the bits of the table's index.
 -- Assumes nothing.
 use mathlib.Core.Path.{◌≡◌, sym, ap, ◌∙◌}
-use mathlib.Core.Bool.{Bool, true, false, not, ◌&&◌, not-not}
+use mathlib.Core.Bool.{Bool, true, not, ◌&&◌, not-not}
 use mathlib.Core.List.{List}
-use Prim.Native.Nat.{ℕ, ◌+◌, ◌<◌}
+use Prim.Native.Nat.{ℕ}
 use borrow.Author.Tests.{ne_eqb}
 use Rattle.model.specs.Lists.{In, any_of, all_of}
 use Rattle.model.specs.Policy.{Assignment, kind_of, is_there}
@@ -14,33 +14,10 @@ use Rattle.model.proofs.Truth.{and_left, all_in, any_alike}
 use Rattle.model.proofs.Chains.{allowed_there}
 use Rattle.model.proofs.Indexed.{index_bit_lem}
 use Rattle.model.proofs.Commands.Names.{child_there}
-use Rattle.table.specs.Layout.{assignment_count}
-use Rattle.table.specs.View.{assignment_at, assignments_of, policy_of}
+use Rattle.table.specs.View.{policy_of}
 use Rattle.table.proofs.Loops.{none_unless}
 use Rattle.index.proofs.Seeds.{there_small}
-use Rattle.named.proofs.Mentions.{NoneYet, none_more, one_found}
 use Rattle.links.specs.Returning.{returns_by}
-
--- by an index's bits, the assignment's container is within its child
-unfoldable pub is_return : (index : List ℕ) → Assignment → Bool
-is_return index a = bit_at index a.container a.child
-
-module _ (mem index : List ℕ) (i : ℕ) {x : ℕ} (d : x ≡ (assignment_at mem i).container) {y : ℕ} (e : y ≡ (assignment_at mem i).child)
-    {b : Bool} (is : b ≡ bit_at index x y) where
-  -- the bit of an assignment
-  bit_is : b ≡ is_return index (assignment_at mem i)
-  unfolding is_return
-  bit_is = rw (← d, ← e) is
-
-  -- not this one
-  pub return_more : {n : ℕ} → NoneYet (is_return index) (assignment_at mem) n i → i < n → b ≡ false
-      → NoneYet (is_return index) (assignment_at mem) n (i + 1)
-  return_more = none_more (is_return index) (assignment_at mem) i bit_is
-
-  -- this one
-  pub return_found : (n : ℕ) → n ≡ assignment_count mem → i < n → b ≡ true → true ≡ returns_by index (policy_of mem).assignments
-  unfolding returns_by is_return policy_of assignments_of
-  return_found n = one_found (is_return index) (assignment_at mem) i bit_is n (assignment_count mem)
 
 module _ (mem : List ℕ) where
   -- the bit of two that are there

@@ -1,9 +1,7 @@
 pub mod Numbered
-pub mod Pairs
 pub mod Parts
 pub mod Free
 pub mod Placing
 pub mod Lifting
 pub mod Above
 pub mod Cycle
-pub mod Wrong

@@ -71,11 +71,12 @@ module _ (mem : List ℕ) where
       record { inside = omega arith; is = rw s (e ∙ ap (lifted mem i) r.is) }
 
   -- all are
-  pub risen_all : {n : ℕ} → n ≡ assignment_count mem → {i : ℕ} → n ≤ i → {ranks : List ℕ} → Risen mem i ranks → Sunk mem i ranks
+  pub risen_all : {n : ℕ} → n ≡ assignment_count mem → {i : ℕ} → n ≤ i → {ranks : List ℕ} → Risen mem i ranks → Sunk mem n ranks
   unfolding ranks_of
-  risen_all count {i} l {ranks} r =
-      let s : assignment_count mem ≡ i = omega (arith, r.inside) in
-      record { inside = r.inside; rest = rw s (ap (lifted_down mem i) r.is) }
+  risen_all {n} count {i} l {ranks} r =
+      let s : assignment_count mem ≡ n = omega arith in
+      let e : i ≡ n = omega (arith, r.inside) in
+      record { inside = omega arith; rest = rw s (ap (lifted_down mem n) (rw e at r.is)) }
 
   -- one more is, against the order
   pub sunk_more : {i : ℕ} → 0 < i → {ranks : List ℕ} → Sunk mem i ranks → {more : List ℕ} → more ≡ lifted mem (i - 1) ranks → Sunk mem (i - 1) more

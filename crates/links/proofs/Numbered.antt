@@ -6,12 +6,12 @@ use mathlib.Core.List.{List}
 use Prim.Native.Nat.{ℕ, suc, ◌+◌, ◌-◌, ◌≤◌, ◌<◌}
 use native.Mathlib.Omega.{arith}
 use native.Mathlib.Decide.{dec_lt}
-use borrow.Author.Tests.{not-true, not-false, lt-leb}
+use borrow.Author.Tests.{not-false, lt-leb}
 use lib.Dec.{eqb, leb}
 use Rattle.model.specs.Lists.{In, any_of, all_of, those, tabulate}
-use Rattle.model.specs.Policy.{Policy, is_element_id, is_kind, kind_of, is_there, user_of, is_process}
+use Rattle.model.specs.Policy.{Policy, Process, is_element_id, is_kind, kind_of, is_there, user_of, is_process}
 use Rattle.model.specs.Sound.{process_pairs, assigned_or_class, all_assigned}
-use Rattle.model.proofs.Truth.{clash, passes, fails, tested, fails_when, or_fails, all_in, all_of_lem, those_in, those_pass, in_those}
+use Rattle.model.proofs.Truth.{clash, same_truth, passes, fails, tested, fails_when, or_fails, all_in, all_of_lem, those_in, those_pass, in_those}
 use Rattle.table.specs.Layout.{kind_word, user_word}
 use Rattle.table.specs.View.{elements_of, processes_of, policy_of}
 use Rattle.table.proofs.Tabled.{in_tabulate, tabulate_in}
@@ -30,13 +30,6 @@ pub record IdsPass (h : ℕ → Bool) (x : ℕ) : Type 0 where
 -- there is none below 1
 pub ids_none : (h : ℕ → Bool) → IdsPass h 1
 ids_none h = record { some = omega arith; passed = λ k a b. absurd (omega arith) }
-
--- x passes too
-pub ids_more : {h : ℕ → Bool} {x : ℕ} → IdsPass h x → {r : Bool} → r ≡ h x → not r ≡ false → IdsPass h (x + 1)
-ids_more {h} {x} p {r} is e = record {
-  some = omega arith;
-  passed = λ k a b. elim (dec_lt k x) [ yes c ↦ p.passed k a c | no c ↦ let q : k ≡ x = omega arith in rw q (sym is ∙ not-false r e) ];
-}
 
 -- the second is true where the first is
 second : (a b : Bool) → a ≡ true → (not a || b) ≡ true → b ≡ true
@@ -107,17 +100,18 @@ module _ (mem : List ℕ) where
       (each_pass (λ e. is_kind e.kind) (assigned_or_class (policy_of mem)) (λ j. record { id = j; kind = kind_word mem j }) 511
       (is_placed (policy_of mem)) element_asked (λ x a b. p x a (omega arith)))
 
-  -- a process that is of no user
-  pub process_fails : {i : ℕ} → IdsPass (owner_fits (policy_of mem)) i → i < 256 → {r : Bool} → r ≡ owner_fits (policy_of mem) i → not r ≡ true
-      → false ≡ all_of (process_pairs (policy_of mem)) (policy_of mem).processes
+  -- each id of a process passes exactly if each process is of a user
+  pub processes_told : {r : Bool} → r ≡ all_of (owner_fits (policy_of mem)) (tabulate 255 (λ i. 1 + i)) → r ≡ all_of (process_pairs (policy_of mem)) (policy_of mem).processes
   unfolding policy_of processes_of
-  process_fails {i} p l {r} is e =
-      one_fails (λ q. is_element_id q.owner) (process_pairs (policy_of mem)) (λ j. record { id = j; owner = user_word mem j }) 255
-      (owner_fits (policy_of mem)) process_asked i p.some (omega arith) (sym is ∙ not-true r e)
-
-  -- each process is of a user
-  pub processes_pass : {i : ℕ} → IdsPass (owner_fits (policy_of mem)) i → 256 ≤ i → true ≡ all_of (process_pairs (policy_of mem)) (policy_of mem).processes
-  unfolding policy_of processes_of
-  processes_pass p l =
-      each_pass (λ q. is_element_id q.owner) (process_pairs (policy_of mem)) (λ j. record { id = j; owner = user_word mem j }) 255
-      (owner_fits (policy_of mem)) process_asked (λ k a b. p.passed k a (omega arith))
+  processes_told is =
+      let make : ℕ → Process = λ j. record { id = j; owner = user_word mem j } in
+      is
+      ∙ same_truth (all_of (owner_fits (policy_of mem)) (tabulate 255 (λ i. 1 + i))) (all_of (process_pairs (policy_of mem)) (policy_of mem).processes)
+      (λ e. sym (each_pass (λ q. is_element_id q.owner) (process_pairs (policy_of mem)) make 255 (owner_fits (policy_of mem)) process_asked
+      (λ x a b. let s : 1 + (x - 1) ≡ x = omega arith in ap (owner_fits (policy_of mem)) (sym s) ∙ all_in (owner_fits (policy_of mem)) e (in_tabulate 255 (λ i. 1 + i) (x - 1) (omega arith)))))
+      (λ e. all_of_lem (owner_fits (policy_of mem)) (tabulate 255 (λ i. 1 + i)) (λ x m. elim (tested (owner_fits (policy_of mem) x)) [
+        | passes h ↦ h
+        | fails h ↦ let w = tabulate_in 255 (λ i. 1 + i) m in
+            absurd (clash e (sym (one_fails (λ q. is_element_id q.owner) (process_pairs (policy_of mem)) make 255 (owner_fits (policy_of mem)) process_asked
+            x (omega (arith, w.is)) (omega (arith, w.is, w.early)) h)))
+      ]))

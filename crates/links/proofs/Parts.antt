@@ -5,7 +5,7 @@ use mathlib.Core.Bool.{Bool, true, false, not, ◌&&◌, ◌||◌}
 use mathlib.Core.List.{List}
 use Prim.Native.Nat.{ℕ, ◌+◌, ◌-◌, ◌<◌}
 use native.Mathlib.Omega.{arith}
-use borrow.Author.Tests.{leb-true, ne_eqb}
+use borrow.Author.Tests.{not-true, not-false, leb-true, ne_eqb}
 use lib.Dec.{leb}
 use lib.ListN.{take, drop}
 use Rattle.model.specs.Lists.{all_of}
@@ -76,15 +76,15 @@ module _ {mem : List ℕ} (t : Table mem) (i : ℕ) (h : i < prohibition_count m
   unfolding wrong_kind_in subject_of_kind
   kind_parted = ap (wrong_kind_in (policy_of mem)) parted_is
 
-  -- it names what is absent
-  pub prohibition_absent : {r : Bool} → r ≡ absent_in (policy_of mem) parted → r ≡ true → false ≡ prohibition_pairs (policy_of mem) (prohibition_at mem i)
-  prohibition_absent e f =
-      let a : absent_in (policy_of mem) (prohibition_at mem i) ≡ true = sym absent_parted ∙ sym e ∙ f in
-      rw (pairs_cut (policy_of mem) (prohibition_at mem i), a)
+  module _ {r : Bool} (e : r ≡ absent_in (policy_of mem) parted) where
+    -- it names what is absent
+    pub prohibition_absent : not r ≡ false → not r ≡ prohibition_pairs (policy_of mem) (prohibition_at mem i)
+    prohibition_absent f =
+        let a : absent_in (policy_of mem) (prohibition_at mem i) ≡ true = sym absent_parted ∙ sym e ∙ not-false r f in
+        rw (pairs_cut (policy_of mem) (prohibition_at mem i), a) f
 
-  -- or else what is of another kind, or neither
-  pub prohibition_kind : {r : Bool} → r ≡ absent_in (policy_of mem) parted → r ≡ false → {q : Bool} → q ≡ wrong_kind_in (policy_of mem) parted
-      → not q ≡ prohibition_pairs (policy_of mem) (prohibition_at mem i)
-  prohibition_kind e f g =
-      let a : absent_in (policy_of mem) (prohibition_at mem i) ≡ false = sym absent_parted ∙ sym e ∙ f in
-      rw (pairs_cut (policy_of mem) (prohibition_at mem i), a) (ap not (g ∙ kind_parted))
+    -- or else what is of another kind, or neither
+    pub prohibition_kind : not r ≡ true → {q : Bool} → q ≡ wrong_kind_in (policy_of mem) parted → not q ≡ prohibition_pairs (policy_of mem) (prohibition_at mem i)
+    prohibition_kind f g =
+        let a : absent_in (policy_of mem) (prohibition_at mem i) ≡ false = sym absent_parted ∙ sym e ∙ not-true r f in
+        rw (pairs_cut (policy_of mem) (prohibition_at mem i), a) (ap not (g ∙ kind_parted))

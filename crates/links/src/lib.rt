@@ -13,6 +13,7 @@ ghost use Rattle.links.specs.Returning.{owner_fits, are_free, returns_by};
 ghost use Rattle.links.specs.Ranks.{lifted, ranks_of, is_above};
 
 // Whether the two of assignment i may be assigned.
+#[tactic(auto, unfolding(model::specs::Sound::assignment_pairs))]
 fn is_assignment_paired(mem: &[u32], i: usize) -> bool
     requires table { Table mem.now }
     requires i_bound { i < assignment_count mem.now }
@@ -29,26 +30,18 @@ fn are_assignments_paired(mem: &[u32]) -> bool
     ensures { result ≡ all_of (assignment_pairs (policy_of mem.now)) (policy_of mem.now).assignments }
 {
     let n = table::assignment_count(mem);
-    let mut i = 0;
-    while i < n {
-        if !is_assignment_paired(mem, i) {
-            return false;
-        }
-        i += 1;
-    }
-    true
+    (0..n).all(|i| is_assignment_paired(mem, i))
 }
 
 // Whether association i is of a user attribute and to an attribute.
+#[tactic(auto, unfolding(model::specs::Sound::association_pairs))]
 fn is_association_paired(mem: &[u32], i: usize) -> bool
     requires table { Table mem.now }
     requires i_bound { i < association_count mem.now }
     ensures { result ≡ association_pairs (policy_of mem.now) (association_at mem.now i) }
 {
-    if table::kind_of(mem, table::attribute_at(mem, i)) != kinds::USER_ATTRIBUTE {
-        return false;
-    }
-    kinds::is_attribute(table::kind_of(mem, table::target_at(mem, i)))
+    table::kind_of(mem, table::attribute_at(mem, i)) == kinds::USER_ATTRIBUTE
+        && kinds::is_attribute(table::kind_of(mem, table::target_at(mem, i)))
 }
 
 // Whether each association is.
@@ -57,14 +50,7 @@ fn are_associations_paired(mem: &[u32]) -> bool
     ensures { result ≡ all_of (association_pairs (policy_of mem.now)) (policy_of mem.now).associations }
 {
     let n = table::association_count(mem);
-    let mut i = 0;
-    while i < n {
-        if !is_association_paired(mem, i) {
-            return false;
-        }
-        i += 1;
-    }
-    true
+    (0..n).all(|i| is_association_paired(mem, i))
 }
 
 // Whether the subject of prohibition i and what it lists are there, of the right kinds. Its ids stand behind its first three words.
@@ -78,10 +64,10 @@ fn is_prohibition_paired(mem: &[u32], i: usize) -> bool
     let from = table::PROHIBITIONS + 11 * i + 3;
     let middle = from + table::inclusion_count_at(mem, i);
     let to = middle + table::exclusion_count_at(mem, i);
-    if prohibition::names_absent(mem, sort, subject, &mem[from..middle], &mem[middle..to]) {
-        return false;
-    }
-    !prohibition::names_other_kind(mem, sort, subject, &mem[from..middle], &mem[middle..to])
+    let inclusion = &mem[from..middle];
+    let exclusion = &mem[middle..to];
+    !prohibition::names_absent(mem, sort, subject, inclusion, exclusion)
+        && !prohibition::names_other_kind(mem, sort, subject, inclusion, exclusion)
 }
 
 // Whether those of each prohibition are.
@@ -90,26 +76,17 @@ fn are_prohibitions_paired(mem: &[u32]) -> bool
     ensures { result ≡ all_of (prohibition_pairs (policy_of mem.now)) (policy_of mem.now).prohibitions }
 {
     let n = table::prohibition_count(mem);
-    let mut i = 0;
-    while i < n {
-        if !is_prohibition_paired(mem, i) {
-            return false;
-        }
-        i += 1;
-    }
-    true
+    (0..n).all(|i| is_prohibition_paired(mem, i))
 }
 
 // Whether process i is not there or its user is a user.
+#[tactic(auto, unfolding(crate::specs::Returning::owner_fits, model::specs::Policy::is_process))]
 fn is_owner_right(mem: &[u32], i: u32) -> bool
     requires { Table mem.now }
     ensures { result ≡ owner_fits (policy_of mem.now) i }
 {
     let user = table::user_of(mem, i);
-    if user == 0 {
-        return true;
-    }
-    table::kind_of(mem, user) == kinds::USER
+    user == 0 || table::kind_of(mem, user) == kinds::USER
 }
 
 // Whether each process is of a user.
@@ -117,31 +94,19 @@ fn are_processes_paired(mem: &[u32]) -> bool
     requires { Table mem.now }
     ensures { result ≡ all_of (process_pairs (policy_of mem.now)) (policy_of mem.now).processes }
 {
-    let mut i = 1;
-    while i < 256 {
-        if !is_owner_right(mem, i) {
-            return false;
-        }
-        i += 1;
-    }
-    true
+    (1..256).all(|i| is_owner_right(mem, i))
 }
 
 // Whether each record names what is there, of the right kinds.
+#[tactic(auto, unfolding(model::specs::Sound::pairs_fit))]
 fn are_pairs_right(mem: &[u32]) -> bool
     requires { Table mem.now }
     ensures { result ≡ pairs_fit (policy_of mem.now) }
 {
-    if !are_assignments_paired(mem) {
-        return false;
-    }
-    if !are_associations_paired(mem) {
-        return false;
-    }
-    if !are_prohibitions_paired(mem) {
-        return false;
-    }
-    are_processes_paired(mem)
+    are_assignments_paired(mem)
+        && are_associations_paired(mem)
+        && are_prohibitions_paired(mem)
+        && are_processes_paired(mem)
 }
 
 // Whether an assignment's container is within its child, by an index's bits.
@@ -150,14 +115,7 @@ fn returns_by(mem: &[u32], idx: &[u8]) -> bool
     ensures { result ≡ returns_by idx.now (policy_of mem.now).assignments }
 {
     let n = table::assignment_count(mem);
-    let mut k = 0;
-    while k < n {
-        if index::bit(idx, table::container_at(mem, k), table::child_at(mem, k)) {
-            return true;
-        }
-        k += 1;
-    }
-    false
+    (0..n).any(|k| index::bit(idx, table::container_at(mem, k), table::child_at(mem, k)))
 }
 
 // Lifts the child of assignment i above its container: its rank becomes the next one, unless it is higher already. No rank is above 512.
@@ -185,13 +143,10 @@ fn ranks(mem: &[u32]) -> [u32; 512]
 {
     let mut ranks = [0u32; 512];
     let n = table::assignment_count(mem);
-    let mut i = 0;
-    while i < n {
+    for i in 0..n {
         lift(mem, &mut ranks, i);
-        i += 1;
     }
-    while 0 < i {
-        i -= 1;
+    for i in (0..n).rev() {
         lift(mem, &mut ranks, i);
     }
     ranks
@@ -203,16 +158,11 @@ fn are_above(mem: &[u32], ranks: &[u32; 512]) -> bool
     ensures { result ≡ all_of (is_above ranks.now) (policy_of mem.now).assignments }
 {
     let n = table::assignment_count(mem);
-    let mut i = 0;
-    while i < n {
+    (0..n).all(|i| {
         let child = table::child_at(mem, i) as usize;
         let container = table::container_at(mem, i) as usize;
-        if ranks[child] <= ranks[container] {
-            return false;
-        }
-        i += 1;
-    }
-    true
+        ranks[container] < ranks[child]
+    })
 }
 
 // Whether a chain of assignments returns to its start, where all that they name is there: the table's index tells.
@@ -233,11 +183,7 @@ fn has_cycle(mem: &[u32]) -> bool
     requires mem_value { pairs_fit (policy_of mem.now) ≡ true }
     ensures { result ≡ not (no_cycle (policy_of mem.now)) }
 {
-    let ranks = ranks(mem);
-    if are_above(mem, &ranks) {
-        return false;
-    }
-    has_cycle_by_index(mem)
+    !are_above(mem, &ranks(mem)) && has_cycle_by_index(mem)
 }
 
 // Whether each element from `from` on and below `to` is not there or a class: none of them asks for an assignment. A kind above a class is none. No
@@ -249,11 +195,9 @@ fn are_free(mem: &[u32], from: u32, to: u32) -> bool
     ensures { result ≡ are_free (policy_of mem.now) from to }
 {
     let mut free = true;
-    let mut x = from;
-    while x < to {
+    for x in from..to {
         let k = mem[table::KINDS + x as usize];
-        free = free & ((k == 0) | (kinds::CLASS <= k));
-        x += 1;
+        free &= (k == 0) | (kinds::CLASS <= k);
     }
     free
 }
@@ -265,30 +209,21 @@ fn are_all_assigned(mem: &[u32]) -> bool
 {
     let n = table::assignment_count(mem);
     let mut x = 1;
-    let mut i = 0;
-    while i < n {
+    for i in 0..n {
         let c = table::child_at(mem, i);
-        if x < c {
-            if !are_free(mem, x, c) {
-                return false;
-            }
+        if x < c && !are_free(mem, x, c) {
+            return false;
         }
         x = c + 1;
-        i += 1;
     }
     are_free(mem, x, 512)
 }
 
 // Whether the table names an unknown element or process, has a wrong kind or pairing, a cycle, or an unassigned element.
+#[tactic(auto, unfolding(model::specs::Image::names_wrong))]
 pub fn names_wrong(mem: &[u32]) -> bool
     requires { Table mem.now }
     ensures { result ≡ names_wrong (policy_of mem.now) }
 {
-    if !are_pairs_right(mem) {
-        return true;
-    }
-    if has_cycle(mem) {
-        return true;
-    }
-    !are_all_assigned(mem)
+    !are_pairs_right(mem) || has_cycle(mem) || !are_all_assigned(mem)
 }

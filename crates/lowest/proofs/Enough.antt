@@ -7,8 +7,6 @@ use mathlib.Core.List.{List}
 use Prim.Native.Nat.{ℕ, zero, suc, ◌+◌, ◌-◌, ◌≤◌, ◌<◌}
 use native.Mathlib.Omega.{arith}
 use native.Mathlib.Decide.{dec_lt}
-use borrow.Author.Tests.{eq-eqb}
-use lib.Dec.{eqb}
 use lib.ListN.{get_or, replicate}
 use Rattle.model.specs.Lists.{those, tabulate, empty}
 use Rattle.model.specs.Policy.{Association}
@@ -17,14 +15,16 @@ use Rattle.table.specs.Layout.{association_count}
 use Rattle.table.specs.View.{association_at}
 use Rattle.rule.specs.declared.Asking.{Asking}
 use Rattle.held.specs.Lacking.{Rows}
-use Rattle.held.specs.Passing.{NextClass}
+use Rattle.held.proofs.Turns.{Told}
+use Rattle.std.specs.Prelude.{None}
+use Rattle.held.specs.Passing.{LeastClass, NextClass}
 use Rattle.lowest.specs.Named.{named, authorizing, LowestOfFirst, LowestOfClasses}
 use Rattle.lowest.specs.Marked.{associations_rise, LowestMarked}
 use Rattle.lowest.proofs.InOrder.{none_before}
 use Rattle.lowest.proofs.Naming.{LowestNamed, named_still, named_kept, named_far, none_far, some_more}
 use Rattle.lowest.proofs.Taken.{gives_in, zeros_give_none, each_class}
 use Rattle.lowest.proofs.Rising.{first_start}
-use Rattle.lowest.proofs.Walked.{is_class, class_from, class_below, walked, class_passed}
+use Rattle.lowest.proofs.Walked.{is_class, class_from, class_below, walked, walked_end, class_passed}
 
 -- where they rise, what is named stays the lowest with one association more
 named_next : {mem : List ℕ} {f : Association → Bool} {i j : ℕ} → associations_rise mem ≡ true → i < association_count mem → LowestNamed mem f i (suc j)
@@ -56,61 +56,82 @@ pub record EnoughTo (mem : List ℕ) (q : Asking) (n c i : ℕ) (names marks que
   pub marked : LowestMarked mem q i names marks queue tail
   pub counted : n ≡ association_count mem
   pub few : i ≤ n
+  pub most : c ≤ 512
   pub enough : (d : ℕ) → d < c → is_class mem q d ≡ true → i < n → empty (authorizing mem q i d) ≡ false
 
--- there is no class below the first
-pub enough_start : {mem rows : List ℕ} {q : Asking} → Rows mem rows false q → {n : ℕ} → n ≡ association_count mem → {c : ℕ} → NextClass mem rows q.over 1 512 c
-    → EnoughTo mem q n c 0 (replicate 512 0) (replicate 512 0) (replicate 512 0) 0
-enough_start {mem} {rows} {q} t e w = record {
+-- there is no class below 1
+pub enough_start : (mem : List ℕ) (q : Asking) {n : ℕ} → n ≡ association_count mem → EnoughTo mem q n 1 0 (replicate 512 0) (replicate 512 0) (replicate 512 0) 0
+enough_start mem q e = record {
   marked = first_start mem q;
   counted = e;
   few = omega arith;
-  enough = λ d l k m. absurd (omega (arith, class_passed (walked t w) d l k, class_from mem q k));
+  most = omega arith;
+  enough = λ d l k m. absurd (omega (arith, class_from mem q k));
 }
 
 module _ {mem : List ℕ} {q : Asking} {n c i : ℕ} {names marks queue : List ℕ} {tail : ℕ} (f : EnoughTo mem q n c i names marks queue tail) where
-  -- what is named and marked so far
-  pub enough_marked : LowestMarked mem q i names marks queue tail
-  enough_marked = f.marked
+  -- the next association
+  module _ {x i' n' : ℕ} (t : Told i n x i' n') where
+    pub enough_next : x < association_count mem
+    enough_next = omega (arith, f.counted, t.1.0, t.1.1)
 
-  -- one association more
-  pub enough_more : i < n → {names' marks' queue' : List ℕ} {tail' : ℕ} → LowestMarked mem q (i + 1) names' marks' queue' tail'
-      → EnoughTo mem q n c (i + 1) names' marks' queue' tail'
-  enough_more l m = record {
-    marked = m;
-    counted = f.counted;
-    few = omega arith;
-    enough = λ d b k s. some_more (each_class f.marked.lowest d (class_below mem q k)) (f.enough d b k (omega arith));
-  }
+    -- what is named and marked before it
+    pub enough_marked : LowestMarked mem q x names marks queue tail
+    enough_marked = rw t.1.1 f.marked
 
-  module _ {rows : List ℕ} (t : Rows mem rows false q) {r : ℕ} (w : NextClass mem rows q.over (c + 1) 512 r) where
-    -- on to the next class, where one of the first i authorizes the right in this one, unless they are all
-    on : (i < n → is_class mem q c ≡ true → empty (authorizing mem q i c) ≡ false) → EnoughTo mem q n r i names marks queue tail
+    -- it is taken into account
+    pub enough_more : {names' marks' queue' : List ℕ} {tail' : ℕ} → LowestMarked mem q (x + 1) names' marks' queue' tail' → EnoughTo mem q n' c i' names' marks' queue' tail'
+    enough_more m =
+        let e : i' ≡ i + 1 = t.1.2 in
+        let k : x + 1 ≡ i + 1 = omega (arith, t.1.1) in
+        rw (e, t.0) (record {
+          marked = rw k at m;
+          counted = f.counted;
+          few = omega (arith, t.1.0);
+          most = f.most;
+          enough = λ d b k s. some_more (each_class f.marked.lowest d (class_below mem q k)) (f.enough d b k (omega arith));
+        })
+
+  module _ {rows : List ℕ} (t : Rows mem rows false q) where
+    -- the next class
+    pub enough_class : {s : ℕ} → LeastClass mem rows q.over c 512 s → EnoughTo mem q n s i names marks queue tail
+    enough_class w = record {
+      marked = f.marked;
+      counted = f.counted;
+      few = f.few;
+      most = omega (arith, w.early);
+      enough = λ d b k l. f.enough d (class_passed mem q (walked t w).none d b k) k l;
+    }
+
+  module _ (l : c < 512) where
+    -- on behind this class, where one of the first i authorizes the right in it, unless they are all
+    on : (i < n → is_class mem q c ≡ true → empty (authorizing mem q i c) ≡ false) → EnoughTo mem q n (c + 1) i names marks queue tail
     on h = record {
       marked = f.marked;
       counted = f.counted;
       few = f.few;
+      most = omega arith;
       enough = λ d b k s. elim (dec_lt d c) [
         | yes y ↦ f.enough d y k s
-        | no y ↦ let e : c ≡ d = omega (arith, class_passed (walked t w) d b k) in
+        | no y ↦ let e : c ≡ d = omega arith in
             subst (λ (x : ℕ). is_class mem q x ≡ true → empty (authorizing mem q i x) ≡ false) e (h s) k
       ];
     }
 
     -- they are all
-    pub enough_all : n ≤ i → EnoughTo mem q n r i names marks queue tail
-    enough_all l = on (λ s k. absurd (omega arith))
+    pub enough_all : n ≤ i → EnoughTo mem q n (c + 1) i names marks queue tail
+    enough_all g = on (λ s k. absurd (omega arith))
 
     -- this one names one
-    pub enough_named : eqb (get_or names c 0) 0 ≡ false → EnoughTo mem q n r i names marks queue tail
+    pub enough_named : (get_or names c 0 ≡ 0 → ⊥) → EnoughTo mem q n (c + 1) i names marks queue tail
     enough_named d =
-        on (λ s k. fails_when (empty (authorizing mem q i c)) (λ e. clash (eq-eqb (get_or names c 0) 0 (f.marked.lowest.none c (class_below mem q k) e)) d))
+        on (λ s k. fails_when (empty (authorizing mem q i c)) (λ e. d (f.marked.lowest.none c (class_below mem q k) e)))
 
-  module _ (up : associations_rise mem ≡ true) (l : 512 ≤ c) where
+  module _ (up : associations_rise mem ≡ true) {rows : List ℕ} (t : Rows mem rows false q) (none : NextClass mem rows q.over c 512 None) where
     -- behind the last class, each class of the element names the lowest of all
     each_end : (d : ℕ) → is_class mem q d ≡ true → LowestNamed mem (gives_in mem q d) (association_count mem) (get_or names d 0)
     each_end d k = elim (dec_lt i n) [
-      | yes s ↦ named_enough (get_or names d 0) up (omega (arith, f.counted, f.few)) (zeros_give_none mem q d) (f.enough d (omega (arith, class_below mem q k)) k s) (each_class f.marked.lowest d (class_below mem q k))
+      | yes s ↦ named_enough (get_or names d 0) up (omega (arith, f.counted, f.few)) (zeros_give_none mem q d) (f.enough d (class_passed mem q (walked_end t none) d (class_below mem q k) k) k s) (each_class f.marked.lowest d (class_below mem q k))
       | no s ↦ let e : i ≡ association_count mem = omega (arith, f.few, f.counted) in
           subst (λ (m : ℕ). LowestNamed mem (gives_in mem q d) m (get_or names d 0)) e (each_class f.marked.lowest d (class_below mem q k))
     ]

@@ -1,20 +1,20 @@
 -- Associations that rise: none is before one that stands before it, and the loop that tests it.
 -- Assumes nothing.
-use mathlib.Core.Path.{◌≡◌, sym, ◌∙◌}
-use mathlib.Core.Bool.{Bool, true, false, not}
+use mathlib.Core.Path.{◌≡◌, refl, sym, ◌∙◌}
+use mathlib.Core.Bool.{Bool, true, false}
 use mathlib.Core.List.{List}
-use Prim.Native.Nat.{ℕ, zero, suc, ◌+◌, ◌-◌, ◌≤◌, ◌<◌}
+use Prim.Native.Nat.{ℕ, zero, suc, ◌+◌, ◌-◌, ◌<◌}
 use native.Mathlib.Omega.{arith}
-use native.Mathlib.Decide.{dec_lt}
-use borrow.Author.Tests.{not-true, not-false}
-use Rattle.model.specs.Lists.{tabulate, before, rising}
+use Rattle.std.specs.List.{list_all, range_with_len}
+use Rattle.model.specs.Lists.{all_of, tabulate, before, rising}
 use Rattle.model.specs.Policy.{association_fields}
-use Rattle.model.proofs.Truth.{clash, fails_when}
+use Rattle.model.proofs.Truth.{clash, fails_when, same_truth, all_in, all_of_lem}
 use Rattle.model.proofs.Order.{before_self, before_trans}
 use Rattle.model.proofs.Groups.{rising_first, rising_rest}
 use Rattle.table.specs.Layout.{association_count}
 use Rattle.table.specs.View.{policy_of, association_at, associations_of}
-use Rattle.table.proofs.Tabled.{in_tabulate, rising_tabulate}
+use Rattle.table.proofs.Tabled.{in_tabulate, tabulate_in, rising_tabulate}
+use Rattle.table.proofs.Chains.{all_counted}
 use Rattle.lowest.specs.Named.{is_before}
 use Rattle.lowest.specs.Marked.{associations_rise}
 
@@ -41,36 +41,26 @@ module _ (mem : List ℕ) (up : associations_rise mem ≡ true) (j i : ℕ) (l :
       (before_trans (association_fields (association_at mem i)) (association_fields (association_at mem j)) (association_fields (association_at mem i)) b is_before_lem)
       (before_self (association_fields (association_at mem i))))
 
--- the first i associations rise
-pub record RisenTo (mem : List ℕ) (i : ℕ) : Type 0 where
-  pub some : 1 ≤ i
-  pub each : (k : ℕ) → suc k < i → is_before mem k (suc k) ≡ true
+-- they rise exactly if each but the first is behind the one before it
+pub rise_where : (mem : List ℕ) (n : ℕ) → n ≡ association_count mem → list_all (λ i. is_before mem (i - 1) i) (range_with_len 1 (n - 1)) ≡ associations_rise mem
+unfolding associations_rise policy_of associations_of
+rise_where mem n e =
+    all_counted (λ i. is_before mem (i - 1) i) (λ i. is_before mem (i - 1) i) 1 (n - 1) (λ i. 1 + i) (λ i _. refl)
+    ∙ same_truth (all_of (λ i. is_before mem (i - 1) i) behind) (rising association_fields (tabulate (association_count mem) (association_at mem))) all each
+  where
+    behind : List ℕ
+    behind = tabulate (n - 1) (λ i. 1 + i)
 
--- one does
-pub risen_one : (mem : List ℕ) → RisenTo mem 1
-risen_one mem = record { some = omega arith; each = λ k l. absurd (omega arith) }
+    all : all_of (λ i. is_before mem (i - 1) i) behind ≡ true → rising association_fields (tabulate (association_count mem) (association_at mem)) ≡ true
+    all h = rising_tabulate association_fields (association_count mem) (association_at mem) (λ k l.
+        let a : 1 + k - 1 ≡ k = omega arith in
+        let b : 1 + k ≡ suc k = omega arith in
+        rw (a, b) at (all_in (λ i. is_before mem (i - 1) i) h (in_tabulate (n - 1) (λ i. 1 + i) k (omega (arith, e)))))
 
-module _ {mem : List ℕ} {i : ℕ} (r : RisenTo mem i) where
-  module _ {b : Bool} (e : b ≡ is_before mem (i - 1) i) where
-    -- the next is behind them
-    pub risen_more : not b ≡ false → RisenTo mem (i + 1)
-    risen_more h = record { some = omega arith; each = λ k l. elim (dec_lt (suc k) i) [ yes y ↦ r.each k y | no n ↦ last k (omega arith) ] }
-      where
-        last : (k : ℕ) → suc k ≡ i → is_before mem k (suc k) ≡ true
-        last k s =
-            let p : i - 1 ≡ k = omega arith in
-            let t : is_before mem (i - 1) i ≡ true = sym e ∙ not-false b h in
-            rw (s, ← p) t
-
-    -- it is not: they do not rise
-    pub risen_fails : {n : ℕ} → n ≡ association_count mem → i < n → not b ≡ true → false ≡ associations_rise mem
-    risen_fails c l h =
-        sym (fails_when (associations_rise mem) (λ up. clash (is_before_lem mem up (i - 1) i (omega (arith, r.some)) (omega arith)) (sym e ∙ not-true b h)))
-
-  -- all do
-  pub risen_all : {n : ℕ} → n ≡ association_count mem → n ≤ i → true ≡ associations_rise mem
-  unfolding associations_rise policy_of associations_of
-  risen_all c l = sym (rising_tabulate association_fields (association_count mem) (association_at mem) (λ k h. r.each k (omega arith)))
+    each : rising association_fields (tabulate (association_count mem) (association_at mem)) ≡ true → all_of (λ i. is_before mem (i - 1) i) behind ≡ true
+    each up = all_of_lem (λ i. is_before mem (i - 1) i) behind (λ i j.
+        let w = tabulate_in (n - 1) (λ i. 1 + i) j in
+        told_before association_fields (association_count mem) (association_at mem) up (i - 1) i (omega (arith, w.is)) (omega (arith, w.is, w.early, e)))
 
 -- what the test says
 pub rise_so : (mem : List ℕ) {b : Bool} → b ≡ associations_rise mem → b ≡ true → associations_rise mem ≡ true

@@ -3,10 +3,12 @@
 use mathlib.Core.Path.{◌≡◌, refl, sym, ap, subst, ◌∙◌}
 use mathlib.Core.List.{List}
 use mathlib.Core.Logic.{inl, inr}
-use Prim.Native.Nat.{ℕ, zero, suc, ◌+◌, ◌*◌, ◌^◌, ◌≤◌, ◌<◌}
+use Prim.Native.Nat.{ℕ, zero, suc, ◌+◌, ◌-◌, ◌*◌, ◌^◌, ◌≤◌, ◌<◌}
 use native.Mathlib.Omega.{arith}
 use native.Mathlib.Decide.{ℕ_discrete, dec_lt}
-use lib.ListN.{length, get_or, set, length-set}
+use borrow.Rule.Slice.PartMut.{mid_of}
+use lib.ListN.{length, get_or, set, drop, length-set, length-drop}
+use Rattle.std.proofs.lemmas.List.{length-take-le, get_or-take, get_or-drop}
 use lib.Seq.{get_or-set_same, get_or-set_other}
 use Rattle.lowest.specs.Marked.{first_name, ClassesQueued, Behind, FirstQueued}
 
@@ -33,23 +35,11 @@ none_next zero i l = omega arith
 none_next (suc j) i l = absurd (omega arith)
 
 -- no place is passed yet
-pub queued_none : (queue : List ℕ) (tail i : ℕ) {names : List ℕ} → length names ≡ 512 → FirstQueued queue tail tail i names names
+pub queued_none : (queue : List ℕ) (tail i : ℕ) {names : List ℕ} → length names ≡ 512 → FirstQueued queue tail (tail + 0) i names names
 queued_none queue tail i e = record { size = e; first = λ c b. absurd (omega (arith, b.late, b.early)); only = λ c. inl refl }
 
--- the class at the next place
-pub next_class : {queue : List ℕ} {n k : ℕ} → ClassesQueued queue n → k < n → get_or queue k 0 < 512
-next_class {queue} {n} {k} q h = q.small k h
-
--- it fits a place number
-pub class_fits : {queue : List ℕ} {n k : ℕ} → ClassesQueued queue n → k < n → get_or queue k 0 < 2 ^ 64
-class_fits {queue} {n} {k} q h = omega (arith, q.small k h)
-
--- and so do the bytes before its name, four for each class
-pub place_fits : {queue : List ℕ} {n k : ℕ} → ClassesQueued queue n → k < n → get_or queue k 0 * 4 < 2 ^ 64
-place_fits {queue} {n} {k} q h = omega (arith, q.small k h)
-
 -- one place more
-pub queued_more : {queue : List ℕ} {n tail k i : ℕ} {names names' : List ℕ} {r : ℕ} → ClassesQueued queue n → k < n → tail ≤ k
+queued_more : {queue : List ℕ} {n tail k i : ℕ} {names names' : List ℕ} {r : ℕ} → ClassesQueued queue n → k < n → tail ≤ k
     → FirstQueued queue tail k i names names' → r ≡ first_name (get_or names' (get_or queue k 0) 0) i
     → FirstQueued queue tail (k + 1) i names (set names' (get_or queue k 0) r)
 queued_more {queue} {n} {tail} {k} {i} {names} {names'} {r} q h o w er = record {
@@ -83,9 +73,43 @@ queued_more {queue} {n} {tail} {k} {i} {names} {names'} {r} q h o w er = record 
       | no l ↦ let e : b.at ≡ k = omega (arith, b.early) in absurd (d (sym b.is ∙ ap (λ (j : ℕ). get_or queue j 0) e))
     ]
 
--- all of them
-pub queued_all : {queue : List ℕ} {tail n k i : ℕ} {names names' : List ℕ} → FirstQueued queue tail k i names names' → k ≤ n → n ≤ k
-    → FirstQueued queue tail n i names names'
-queued_all {queue} {tail} {n} {k} {i} {names} {names'} w h h' =
-    let e : k ≡ n = omega arith in
-    subst (λ (m : ℕ). FirstQueued queue tail m i names names') e w
+-- What stands in the queue from `tail` on.
+module _ {queue : List ℕ} {n : ℕ} (q : ClassesQueued queue n) {tail : ℕ} (l : tail ≤ n) where
+  -- so many
+  behind_many : length (mid_of tail (n - tail) queue) ≡ n - tail
+  behind_many = length-take-le (n - tail) (drop tail queue) (omega (arith, length-drop tail queue, q.room, q.short))
+
+  module _ {k : ℕ} (h : k < length (mid_of tail (n - tail) queue)) where
+    -- each is a place of the queue
+    behind_early : tail + k < n
+    behind_early = omega (arith, behind_many)
+
+    behind_at : get_or (mid_of tail (n - tail) queue) k 0 ≡ get_or queue (tail + k) 0
+    behind_at = get_or-take (n - tail) (drop tail queue) k 0 (omega (arith, behind_many)) ∙ get_or-drop tail queue k 0
+
+    -- and a class
+    pub next_class : get_or (mid_of tail (n - tail) queue) k 0 < 512
+    next_class = rw behind_at (q.small (tail + k) behind_early)
+
+    -- it fits a place number
+    pub class_fits : get_or (mid_of tail (n - tail) queue) k 0 < 2 ^ 64
+    class_fits = omega (arith, next_class)
+
+    -- and so do the bytes before its name, four for each class
+    pub place_fits : get_or (mid_of tail (n - tail) queue) k 0 * 4 < 2 ^ 64
+    place_fits = omega (arith, next_class)
+
+    -- one place more
+    pub queued_next : {i : ℕ} {names names' : List ℕ} {r : ℕ} → FirstQueued queue tail (tail + k) i names names'
+        → r ≡ first_name (get_or names' (get_or (mid_of tail (n - tail) queue) k 0) 0) i
+        → FirstQueued queue tail (tail + (k + 1)) i names (set names' (get_or (mid_of tail (n - tail) queue) k 0) r)
+    queued_next w e =
+        let s : tail + (k + 1) ≡ tail + k + 1 = omega arith in
+        rw (s, behind_at) (queued_more q behind_early (omega arith) w (e ∙ (rw behind_at refl)))
+
+  -- all of them
+  pub queued_all : {i k : ℕ} {names names' : List ℕ} → FirstQueued queue tail (tail + k) i names names' → k ≤ length (mid_of tail (n - tail) queue)
+      → length (mid_of tail (n - tail) queue) ≤ k → FirstQueued queue tail n i names names'
+  queued_all {i} {k} {names} {names'} w h h' =
+      let e : tail + k ≡ n = omega (arith, behind_many) in
+      subst (λ (m : ℕ). FirstQueued queue tail m i names names') e w

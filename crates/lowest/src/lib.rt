@@ -8,7 +8,7 @@ ghost use Rattle.held.specs.Lacking.{Rows};
 ghost use Rattle.lowest.specs.Named.{is_before, is_lower, is_lower_at_target, lower_name, NamesOfFirst, LoweredAbove, LowestOfFirst, LowestOfClasses};
 ghost use Rattle.lowest.specs.Marked.{associations_rise, first_name, ClassesQueued, FirstQueued, LowestMarked};
 
-use rule::Asking;
+use rule::{Asking, Climbed};
 
 // Whether association i is before association j, by user attribute, target, then rights.
 fn is_before(mem: &[u32], i: usize, j: usize) -> bool
@@ -17,23 +17,17 @@ fn is_before(mem: &[u32], i: usize, j: usize) -> bool
     requires j_bound { j < association_count mem.now }
     ensures { result ≡ is_before mem.now i j }
 {
-    let a = table::attribute_at(mem, i);
-    let b = table::attribute_at(mem, j);
-    if a < b {
-        return true;
-    }
-    if b < a {
-        return false;
-    }
-    let s = table::target_at(mem, i);
-    let t = table::target_at(mem, j);
-    if s < t {
-        return true;
-    }
-    if t < s {
-        return false;
-    }
-    table::rights_at(mem, i) < table::rights_at(mem, j)
+    let of_i = (
+        table::attribute_at(mem, i),
+        table::target_at(mem, i),
+        table::rights_at(mem, i),
+    );
+    let of_j = (
+        table::attribute_at(mem, j),
+        table::target_at(mem, j),
+        table::rights_at(mem, j),
+    );
+    of_i < of_j
 }
 
 // Whether association i is lower than what is named: before it, or none is named.
@@ -83,10 +77,8 @@ fn name_above(mem: &[u32], i: usize, names: &mut [u32; 512])
     ensures { LoweredAbove mem.now i names.old names.new }
 {
     let marks = climb::marks(mem, table::target_at(mem, i));
-    let mut c = 0;
-    while c < 512 {
-        names[c] = kept_or_lower(mem, marks[c], names[c], i);
-        c += 1;
+    for (c, name) in names.iter_mut().enumerate() {
+        *name = kept_or_lower(mem, marks[c], *name, i);
     }
 }
 
@@ -109,7 +101,7 @@ fn name_next(mem: &[u32], rows: &[u8], q: Asking, i: usize, names: &mut [u32; 51
     requires lowest_of_first { LowestOfFirst mem.now q i names.old }
     ensures { LowestOfFirst mem.now q (i + 1) names.new }
 {
-    if !rule::is_offered(mem, rows, false, q, i) {
+    if !rule::is_offered(mem, &Climbed { rows }, q, i) {
         return;
     }
     // what is named at the target authorizes the right in all that the target is within: where association i is not lower, nothing changes
@@ -128,10 +120,8 @@ fn lowest_of_any(mem: &[u32], rows: &[u8], q: Asking) -> [u32; 512]
 {
     let n = table::association_count(mem);
     let mut names = [0u32; 512];
-    let mut i = 0;
-    while i < n {
+    for i in 0..n {
         name_next(mem, rows, q, i, &mut names);
-        i += 1;
     }
     names
 }
@@ -142,14 +132,7 @@ fn are_rising(mem: &[u32]) -> bool
     ensures { result ≡ associations_rise mem.now }
 {
     let n = table::association_count(mem);
-    let mut i = 1;
-    while i < n {
-        if !is_before(mem, i - 1, i) {
-            return false;
-        }
-        i += 1;
-    }
-    true
+    (1..n).all(|i| is_before(mem, i - 1, i))
 }
 
 // What is named, association i where none is.
@@ -171,11 +154,9 @@ fn name_queued(queue: &[u32; 512], tail: usize, t: usize, i: usize, names: &mut 
     requires names_len { length names.old ≡ 512 }
     ensures { FirstQueued queue.now tail t i names.old names.new }
 {
-    let mut k = tail;
-    while k < t {
-        let c = queue[k] as usize;
+    for c in &queue[tail..t] {
+        let c = *c as usize;
         names[c] = first_name(names[c], i);
-        k += 1;
     }
 }
 
@@ -199,7 +180,7 @@ fn name_first(
     requires lowest_marked { LowestMarked mem.now q i names.old seen.old queue.old tail }
     ensures { LowestMarked mem.now q (i + 1) names.new seen.new queue.new result }
 {
-    if !rule::is_offered(mem, rows, false, q, i) {
+    if !rule::is_offered(mem, &Climbed { rows }, q, i) {
         return tail;
     }
     let target = table::target_at(mem, i);
@@ -222,19 +203,20 @@ fn lowest_of_rising(mem: &[u32], rows: &[u8], q: Asking) -> [u32; 512]
     requires mem_value { associations_rise mem.now ≡ true }
     ensures { LowestOfClasses mem.now q result }
 {
-    let n = table::association_count(mem);
+    let mut associations = 0..table::association_count(mem);
     let mut names = [0u32; 512];
     let mut seen = [0u8; 512];
     let mut queue = [0u32; 512];
     let mut tail = 0;
-    let mut i = 0;
-    let mut c = held::next_class(mem, rows, q.over, 1);
-    while c < 512 {
-        while i < n && names[c as usize] == 0 {
+    let mut from = 1;
+    while let Some(c) = held::next_class(mem, rows, q.over, from) {
+        while names[c as usize] == 0 {
+            let Some(i) = associations.next() else {
+                break;
+            };
             tail = name_first(mem, rows, q, i, &mut names, &mut seen, &mut queue, tail);
-            i += 1;
         }
-        c = held::next_class(mem, rows, q.over, c + 1);
+        from = c + 1;
     }
     names
 }

@@ -3,9 +3,10 @@
 use mathlib.Core.Path.{◌≡◌, ◌∙◌}
 use mathlib.Core.Bool.{Bool}
 use mathlib.Core.List.{List}
-use Prim.Native.Nat.{ℕ, suc, ◌+◌, ◌-◌, ◌*◌, ◌^◌, ◌≤◌, ◌<◌}
+use Prim.Native.Nat.{ℕ, suc, ◌+◌, ◌-◌, ◌*◌, ◌^◌, ◌≤◌, ◌<◌, min}
 use native.Mathlib.Numerals.{add-one}
 use native.Mathlib.Omega.{arith}
+use native.Mathlib.Decide.{dec_lt}
 use borrow.Author.Tests.{lt-ltb, le-ltb}
 use lib.ListN.{length}
 use Rattle.model.specs.Bits.{bits_of, num_at}
@@ -43,6 +44,13 @@ up_to_in all p h = rw (le-ltb all p h)
 pub up_to_past : (all p : ℕ) → all < p → all + 1 ≡ up_to all p
 unfolding up_to
 up_to_past all p h = rw (lt-ltb all p h) (add-one all)
+
+-- the lesser of the place and the first past them
+up_to_min : (all p : ℕ) → min p (all + 1) ≡ up_to all p
+up_to_min all p = elim (dec_lt all p) [
+  | yes h ↦ omega (arith, up_to_past all p h)
+  | no h ↦ let k : p ≤ all = omega arith in omega (arith, up_to_in all p k)
+]
 
 -- i of n prohibitions from the place `at` on are passed, up to the place p
 pub record Passed (s : List ℕ) (at n all p i : ℕ) : Type 0 where
@@ -86,18 +94,10 @@ module _ (s : List ℕ) (at n all p i : ℕ) (now : Passed s at n all p i) where
         same = now.same ∙ rw (e, f);
       }
 
-  -- all are passed, and end past the bits
-  pub all_past : n ≤ i → all < p → all + 1 ≡ up_to (8 * length s) (behind (bits_of s) at n)
+  -- all are passed
+  pub all_passed : (r : ℕ) → r ≡ min p (all + 1) → n ≤ i → r ≡ up_to (8 * length s) (behind (bits_of s) at n)
   unfolding behind
-  all_past h k =
+  all_passed r m h =
       let z : n - i ≡ 0 = omega arith in
       let e : behind (bits_of s) at n ≡ p = now.same ∙ rw z in
-      rw (e, ← now.all_are) (up_to_past all p k)
-
-  -- all are passed, and end within them
-  pub all_passed : n ≤ i → p ≤ all → p ≡ up_to (8 * length s) (behind (bits_of s) at n)
-  unfolding behind
-  all_passed h k =
-      let z : n - i ≡ 0 = omega arith in
-      let e : behind (bits_of s) at n ≡ p = now.same ∙ rw z in
-      rw (e, ← now.all_are) (up_to_in all p k)
+      rw (e, ← now.all_are, m) (up_to_min all p)

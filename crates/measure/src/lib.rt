@@ -5,9 +5,11 @@ ghost use Rattle.std.specs.Prelude.{◌≡◌, ◌+◌, ◌*◌, ◌^◌, ◌≤
 ghost use Rattle.model.specs.Bits.{bits_of};
 ghost use Rattle.model.specs.Image.{other_form};
 ghost use Rattle.model.specs.Refusal.{refusal as first_refusal};
+ghost use Rattle.answer.specs.Answers.{refusal_in};
 ghost use Rattle.measure.specs.Places.{Counted, Reaches, behind as place_behind, up_to};
 ghost use Rattle.measure.specs.Sizes.{misfits as does_misfit, strays_from, size_lines};
 
+use answer::Refusal;
 use bits::Cursor;
 
 // The bits of the head, and of a record of each group; a prohibition takes 9 more for each id that it lists.
@@ -42,14 +44,10 @@ pub fn head(s: &[u8]) -> Counts
     ensures { Counted (bits_of s.now) result.elements result.assignments result.associations result.prohibitions result.processes }
 {
     let elements = Cursor { at: 4 }.take(s, 9);
-    let c = elements.next;
-    let assignments = c.take(s, 11);
-    let d = assignments.next;
-    let associations = d.take(s, 10);
-    let e = associations.next;
-    let prohibitions = e.take(s, 8);
-    let f = prohibitions.next;
-    let processes = f.take(s, 8);
+    let assignments = elements.next.take(s, 11);
+    let associations = assignments.next.take(s, 10);
+    let prohibitions = associations.next.take(s, 8);
+    let processes = prohibitions.next.take(s, 8);
     Counts {
         elements: elements.value as usize,
         assignments: assignments.value as usize,
@@ -67,22 +65,15 @@ pub fn behind(s: &[u8], at: usize, n: usize) -> usize
 {
     let all = 8 * s.len();
     let mut p = at;
-    let mut i = 0;
-    while i < n {
+    for _ in 0..n {
         if all < p + PROHIBITION {
             return all + 1;
         }
         let inclusions = Cursor { at: p + 44 }.take(s, 3);
-        let c = inclusions.next;
-        let exclusions = c.take(s, 3);
-        let d = exclusions.next;
-        p = d.at + 9 * (inclusions.value as usize + exclusions.value as usize);
-        i += 1;
+        let exclusions = inclusions.next.take(s, 3);
+        p = exclusions.next.at + 9 * (inclusions.value as usize + exclusions.value as usize);
     }
-    if all < p {
-        return all + 1;
-    }
-    p
+    p.min(all + 1)
 }
 
 // Whether a bit from a place in the last byte on is set.
@@ -133,21 +124,21 @@ fn is_other_form(s: &[u8]) -> bool
     form.value != 1
 }
 
-// 11 or 12, the first that holds of the image, 0 where neither does.
-pub fn refusal(s: &[u8]) -> u32
-    ensures { result ≡ first_refusal (size_lines s.now) }
+// Refused with 11 or 12, the first that holds of the image.
+pub fn refusal(s: &[u8]) -> Result<(), Refusal>
+    ensures { refusal_in result ≡ first_refusal (size_lines s.now) }
 {
     if s.len() == 0 {
-        return 12;
+        return Err(Refusal::Misfit);
     }
     if is_other_form(s) {
-        return 11;
+        return Err(Refusal::OtherForm);
     }
     if LONGEST < s.len() {
-        return 12;
+        return Err(Refusal::Misfit);
     }
     if misfits(s) {
-        return 12;
+        return Err(Refusal::Misfit);
     }
-    0
+    Ok(())
 }

@@ -29,14 +29,7 @@ fn is_container(mem: &[u32], x: u32) -> bool
     ensures { result ≡ is_container (policy_of mem.now) x }
 {
     let n = table::assignment_count(mem);
-    let mut i = 0;
-    while i < n {
-        if table::container_at(mem, i) == x {
-            return true;
-        }
-        i += 1;
-    }
-    false
+    (0..n).any(|i| table::container_at(mem, i) == x)
 }
 
 // Whether association i names x.
@@ -45,10 +38,7 @@ fn associates(mem: &[u32], i: usize, x: u32) -> bool
     requires i_bound { i < association_count mem.now }
     ensures { result ≡ (eqb (association_at mem.now i).attribute x || eqb (association_at mem.now i).target x) }
 {
-    if table::attribute_at(mem, i) == x {
-        return true;
-    }
-    table::target_at(mem, i) == x
+    table::attribute_at(mem, i) == x || table::target_at(mem, i) == x
 }
 
 // Whether an association names x.
@@ -57,14 +47,7 @@ fn is_associated(mem: &[u32], x: u32) -> bool
     ensures { result ≡ is_associated (policy_of mem.now) x }
 {
     let n = table::association_count(mem);
-    let mut i = 0;
-    while i < n {
-        if associates(mem, i, x) {
-            return true;
-        }
-        i += 1;
-    }
-    false
+    (0..n).any(|i| associates(mem, i, x))
 }
 
 // Whether prohibition i lists x.
@@ -74,29 +57,17 @@ fn lists(mem: &[u32], i: usize, x: u32) -> bool
     ensures { result ≡ member x (listed (prohibition_at mem.now i)) }
 {
     let n = table::inclusion_count_at(mem, i) + table::exclusion_count_at(mem, i);
-    let mut k = 0;
-    while k < n {
-        if table::listed_at(mem, i, k) == x {
-            return true;
-        }
-        k += 1;
-    }
-    false
+    (0..n).any(|k| table::listed_at(mem, i, k) == x)
 }
 
 // Whether prohibition i names element x: as its subject, or in a list.
+#[tactic(auto, unfolding(model::specs::Command::prohibition_names_element))]
 fn prohibits(mem: &[u32], i: usize, x: u32) -> bool
     requires table { Table mem.now }
     requires i_bound { i < prohibition_count mem.now }
     ensures { result ≡ prohibition_names_element x (prohibition_at mem.now i) }
 {
-    if table::sort_at(mem, i) == BY_PROCESS {
-        return lists(mem, i, x);
-    }
-    if table::subject_at(mem, i) == x {
-        return true;
-    }
-    lists(mem, i, x)
+    table::sort_at(mem, i) != BY_PROCESS && table::subject_at(mem, i) == x || lists(mem, i, x)
 }
 
 // Whether a prohibition names element x.
@@ -105,14 +76,7 @@ fn is_prohibited(mem: &[u32], x: u32) -> bool
     ensures { result ≡ is_prohibited (policy_of mem.now) x }
 {
     let n = table::prohibition_count(mem);
-    let mut i = 0;
-    while i < n {
-        if prohibits(mem, i, x) {
-            return true;
-        }
-        i += 1;
-    }
-    false
+    (0..n).any(|i| prohibits(mem, i, x))
 }
 
 // Whether a process is of user x.
@@ -121,32 +85,17 @@ fn is_owner(mem: &[u32], x: u32) -> bool
     requires le_x { 1 ≤ x }
     ensures { result ≡ is_owner (policy_of mem.now) x }
 {
-    let mut i = 1;
-    while i < 256 {
-        if table::user_of(mem, i) == x {
-            return true;
-        }
-        i += 1;
-    }
-    false
+    (1..256).any(|i| table::user_of(mem, i) == x)
 }
 
 // Whether something is assigned to element x, or an association, a prohibition or a process names it.
+#[tactic(auto, unfolding(model::specs::Command::in_use, crate::specs::Uses::is_container, crate::specs::Uses::is_associated, crate::specs::Uses::is_prohibited, crate::specs::Uses::is_owner))]
 pub fn is_in_use(mem: &[u32], x: u32) -> bool
     requires table { Table mem.now }
     requires le_x { 1 ≤ x }
     ensures { result ≡ in_use (policy_of mem.now) x }
 {
-    if is_container(mem, x) {
-        return true;
-    }
-    if is_associated(mem, x) {
-        return true;
-    }
-    if is_prohibited(mem, x) {
-        return true;
-    }
-    is_owner(mem, x)
+    is_container(mem, x) || is_associated(mem, x) || is_prohibited(mem, x) || is_owner(mem, x)
 }
 
 // Whether the subject of prohibition k is process i.
@@ -155,10 +104,7 @@ fn prohibits_process(mem: &[u32], k: usize, i: u32) -> bool
     requires k_bound { k < prohibition_count mem.now }
     ensures { result ≡ names_process i (prohibition_at mem.now k) }
 {
-    if table::sort_at(mem, k) != BY_PROCESS {
-        return false;
-    }
-    table::subject_at(mem, k) == i
+    table::sort_at(mem, k) == BY_PROCESS && table::subject_at(mem, k) == i
 }
 
 // Whether a prohibition names process i.
@@ -167,12 +113,5 @@ pub fn is_process_in_use(mem: &[u32], i: u32) -> bool
     ensures { result ≡ process_in_use (policy_of mem.now) i }
 {
     let n = table::prohibition_count(mem);
-    let mut k = 0;
-    while k < n {
-        if prohibits_process(mem, k, i) {
-            return true;
-        }
-        k += 1;
-    }
-    false
+    (0..n).any(|k| prohibits_process(mem, k, i))
 }

@@ -31,10 +31,11 @@ fn write_head(
     requires reaches { Reaches out.old 0 50 }
     ensures { Put out.old out.new 0 (head_of elements assignments associations prohibitions processes) result }
 {
-    let c = Cursor { at: 0 }.write(out, 13, FORM + elements);
-    let d = c.write(out, 21, assignments * 1024 + associations);
-    let e = d.write(out, 16, prohibitions * 256 + processes);
-    e.at
+    Cursor { at: 0 }
+        .write(out, 13, FORM + elements)
+        .write(out, 21, assignments * 1024 + associations)
+        .write(out, 16, prohibitions * 256 + processes)
+        .at
 }
 
 // Writes the head of the table's image.
@@ -43,15 +44,13 @@ fn write_table_head(mem: &[u32], out: &mut [u8]) -> usize
     requires reaches { Reaches out.old 0 50 }
     ensures { Put out.old out.new 0 (head_bits (policy_of mem.now)) result }
 {
-    let elements = weigh::element_count(mem) as u32;
-    let processes = weigh::process_count(mem) as u32;
     write_head(
         out,
-        elements,
+        weigh::element_count(mem) as u32,
         table::assignment_count(mem) as u32,
         table::association_count(mem) as u32,
         table::prohibition_count(mem) as u32,
-        processes,
+        weigh::process_count(mem) as u32,
     )
 }
 
@@ -87,8 +86,7 @@ fn write_filling(out: &mut [u8], at: usize) -> usize
     if left == 0 {
         return at;
     }
-    let c = Cursor { at }.write(out, left as u32, 0);
-    c.at
+    Cursor { at }.write(out, left as u32, 0).at
 }
 
 // Makes the bytes, as many as the image takes, the table's image.

@@ -20,50 +20,47 @@ use Rattle.model.proofs.Refusals.{none_accepted, accepted_none}
 use Rattle.model.proofs.Indexed.{index_bit_lem, index_zero_row, index_zero_column}
 use Rattle.table.specs.View.{holds_table, policy_of, memory}
 use Rattle.table.specs.Answers as table
-use Rattle.table.specs.declared.Outcome.{Outcome}
-use Rattle.table.specs.declared.Outcome.TheVariants as outcome
+use Rattle.std.specs.Prelude.{Bool, Result, Ok}
+use Rattle.answer.specs.declared.Refusal.{Refusal}
+use Rattle.answer.specs.Answers as result
 use Rattle.table.proofs.Outcomes.{one_outcome}
 use Rattle.table.proofs.ById.{kind_outside}
 use Rattle.climb.specs.Answers as climb
-use Rattle.climb.specs.declared.Containment.{Containment}
-use Rattle.climb.specs.declared.Containment.TheVariants as containment
 use Rattle.climb.proofs.Answered as climbed
 use Rattle.index.specs.Answers as index
-use Rattle.index.specs.declared.Matching.{Matching}
-use Rattle.index.specs.declared.Matching.TheVariants as matching
 use Rattle.index.proofs.Unique.{is_index_unique}
 use Rattle.policy.specs.Allows as allows
 
 -- contains: any words, any two numbers, any result
-module _ (words : List ℕ) (x y : ℕ) (r : Containment) (e : allows.contains words x y r) where
+module _ (words : List ℕ) (x y : ℕ) (r : Result Bool Refusal) (e : allows.contains words x y r) where
   -- within exactly if no line holds and x is within y
-  pub contains_within : (r ≡ containment.Within)
+  pub contains_within : (r ≡ (Ok true))
       ↔ (None (contain_lines (holds_table words) (policy_of words) x y) × Within (policy_of words).assignments x y)
-  unfolding contains climb.told
+  unfolding contains result.told
   contains_within =
       let lines = contain_lines (holds_table words) (policy_of words) x y in
       let is_Within = contained (policy_of words) x y in (
         λ h. let c = accepted_none is_Within lines (sym e ∙ ap climb.told h) in (c.0, within_says (policy_of words).assignments (sym c.1)),
-        λ p. climbed.unique r containment.Within (e ∙ none_accepted is_Within p.0 ∙ ap accepted (within_when (policy_of words).assignments p.1)),
+        λ p. climbed.unique r (Ok true) (e ∙ none_accepted is_Within p.0 ∙ ap accepted (within_when (policy_of words).assignments p.1)),
       )
 
   -- outside exactly if no line holds and x is not within y
-  pub contains_outside : (r ≡ containment.Outside)
+  pub contains_outside : (r ≡ (Ok false))
       ↔ (None (contain_lines (holds_table words) (policy_of words) x y) × (Within (policy_of words).assignments x y → ⊥))
-  unfolding contains climb.told
+  unfolding contains result.told
   contains_outside =
       let lines = contain_lines (holds_table words) (policy_of words) x y in
       let is_Within = contained (policy_of words) x y in (
         λ h. let c = accepted_none is_Within lines (sym e ∙ ap climb.told h) in (c.0, λ w. clash (within_when (policy_of words).assignments w) (sym c.1)),
-        λ p. climbed.unique r containment.Outside
+        λ p. climbed.unique r (Ok false)
             (e ∙ none_accepted is_Within p.0 ∙ ap accepted (fails_when is_Within (λ t. p.1 (within_says (policy_of words).assignments t)))),
       )
 
 -- is_index: any words, any bytes, any result
-module _ (words bytes : List ℕ) (r : Matching) (e : allows.is_index words bytes r) where
+module _ (words bytes : List ℕ) (r : Result Bool Refusal) (e : allows.is_index words bytes r) where
   -- the same exactly if no line holds and each byte is the index's
-  pub is_index_same : (r ≡ matching.Same) ↔ (None (index_lines (lent (memory words) bytes)) × (bytes ≡ index_of (policy_of words)))
-  unfolding is_index index.matched
+  pub is_index_same : (r ≡ Ok true) ↔ (None (index_lines (lent (memory words) bytes)) × (bytes ≡ index_of (policy_of words)))
+  unfolding is_index result.told
   is_index_same =
       let lines = index_lines (lent (memory words) bytes) in
       let same-as = same bytes (index_of (policy_of words)) in (
@@ -72,8 +69,8 @@ module _ (words bytes : List ℕ) (r : Matching) (e : allows.is_index words byte
       )
 
   -- another exactly if no line holds and some byte is not
-  pub is_index_other : (r ≡ matching.Other) ↔ (None (index_lines (lent (memory words) bytes)) × (bytes ≡ index_of (policy_of words) → ⊥))
-  unfolding is_index index.matched
+  pub is_index_other : (r ≡ Ok false) ↔ (None (index_lines (lent (memory words) bytes)) × (bytes ≡ index_of (policy_of words) → ⊥))
+  unfolding is_index result.told
   is_index_other =
       let lines = index_lines (lent (memory words) bytes) in
       let same-as = same bytes (index_of (policy_of words)) in (
@@ -87,29 +84,29 @@ unfolding is_there
 zero_nowhere words = rw (sym (kind_outside words 0 (inl (omega arith))))
 
 -- build_index: any words, any bytes, any result, and the bytes that it leaves
-module _ (words bytes bytes' : List ℕ) (r : Outcome) (e : allows.build_index words bytes r bytes') where
+module _ (words bytes bytes' : List ℕ) (r : Result (Unit {0}) Refusal) (e : allows.build_index words bytes r bytes') where
   -- what it says
   said : table.told r bytes' ≡ (build (memory words) bytes).answers
   said = ap (λ (b : Building). b.answers) e
 
   -- it is done exactly if no line holds
-  pub build_done : (r ≡ outcome.Done) ↔ None (index_lines (lent (memory words) bytes))
-  unfolding build table.told
+  pub build_done : (r ≡ Ok tt) ↔ None (index_lines (lent (memory words) bytes))
+  unfolding build result.told
   build_done =
       let lines = index_lines (lent (memory words) bytes) in
       let made = index_of (policy_of words) in (
-        λ h. (accepted_none made lines (sym said ∙ ap (λ (s : Outcome). table.told s bytes') h)).0,
-        λ f. one_outcome r outcome.Done bytes' made (said ∙ none_accepted made f),
+        λ h. (accepted_none made lines (sym said ∙ ap (λ (s : Result (Unit {0}) Refusal). table.told s bytes') h)).0,
+        λ f. one_outcome r (Ok tt) bytes' made (said ∙ none_accepted made f),
       )
 
   -- then each byte is the index's
-  pub build_index_of : r ≡ outcome.Done → bytes' ≡ index_of (policy_of words)
-  unfolding build table.told
+  pub build_index_of : r ≡ Ok tt → bytes' ≡ index_of (policy_of words)
+  unfolding build result.told
   build_index_of h =
-      (accepted_none (index_of (policy_of words)) (index_lines (lent (memory words) bytes)) (sym said ∙ ap (λ (s : Outcome). table.told s bytes') h)).1
+      (accepted_none (index_of (policy_of words)) (index_lines (lent (memory words) bytes)) (sym said ∙ ap (λ (s : Result (Unit {0}) Refusal). table.told s bytes') h)).1
 
   -- and each bit is 1 exactly if both elements are there and the first is within the second
-  pub build_bit : r ≡ outcome.Done → (x y : ℕ) → x < 512 → y < 512 → (bit_at bytes' x y ≡ true)
+  pub build_bit : r ≡ Ok tt → (x y : ℕ) → x < 512 → y < 512 → (bit_at bytes' x y ≡ true)
       ↔ ((is_there (policy_of words) x ≡ true) × (is_there (policy_of words) y ≡ true) × Within (policy_of words).assignments x y)
   unfolding index_bit
   build_bit h x y hx hy =
@@ -123,11 +120,11 @@ module _ (words bytes bytes' : List ℕ) (r : Outcome) (e : allows.build_index w
       )
 
   -- row 0 is zero
-  pub build_zero_row : r ≡ outcome.Done → (y : ℕ) → y < 512 → bit_at bytes' 0 y ≡ false
+  pub build_zero_row : r ≡ Ok tt → (y : ℕ) → y < 512 → bit_at bytes' 0 y ≡ false
   build_zero_row h y hy =
       ap (λ (l : List ℕ). bit_at l 0 y) (build_index_of h) ∙ index_bit_lem (policy_of words) 0 y (omega arith) hy ∙ index_zero_row (policy_of words) (zero_nowhere words) y
 
   -- so is column 0
-  pub build_zero_column : r ≡ outcome.Done → (x : ℕ) → x < 512 → bit_at bytes' x 0 ≡ false
+  pub build_zero_column : r ≡ Ok tt → (x : ℕ) → x < 512 → bit_at bytes' x 0 ≡ false
   build_zero_column h x hx =
       ap (λ (l : List ℕ). bit_at l x 0) (build_index_of h) ∙ index_bit_lem (policy_of words) x 0 hx (omega arith) ∙ index_zero_column (policy_of words) (zero_nowhere words) x

@@ -26,18 +26,22 @@ use Rattle.model.proofs.SmallHouse as model
 use Rattle.model.proofs.Truth.{all_in, and_cut}
 use Rattle.model.proofs.Refusals.{Judged, by, clear, judged, first_given, none_given, first_not_0}
 use Rattle.model.proofs.Indexed.{index_length}
+use Rattle.model.proofs.Decisions.Answers.{explained_refused}
 use Rattle.model.proofs.Decisions.ByIndex.{indexed_as_plain}
 use Rattle.model.proofs.Commands.Lines.{commands_numbered}
 use Rattle.model.proofs.Commands.Upkeep.{command_steps}
 use Rattle.table.specs.View.{holds_table, policy_of, memory}
-use Rattle.table.specs.declared.Outcome.{Outcome}
+use Rattle.std.specs.Prelude.{Result, Ok, Err}
+use Rattle.answer.specs.declared.Refusal.{Refusal}
+use Rattle.answer.specs.Answers as result
+use Rattle.answer.proofs.Told.{refused_told}
 use Rattle.table.proofs.Outcomes.{never}
 use Rattle.request.specs.Asks.{request_of}
 use Rattle.request.specs.declared.Request.{Request}
 use Rattle.decide.specs.Answers as decided
 use Rattle.decide.specs.declared.Decision.{Decision}
 use Rattle.decide.specs.declared.Decision.TheVariants as decision
-use Rattle.explain.specs.Answers.{numbers_of, numbers}
+use Rattle.explain.specs.Answers.{explained_by, Left, numbers_of, numbers, explaining}
 use Rattle.explain.specs.declared.Explanation.{Explanation}
 use Rattle.explain.specs.declared.Explanation.TheVariants as explanation
 use Rattle.explain.proofs.Theorems as explained
@@ -66,15 +70,15 @@ run_policy k none = refl
 run_policy k (then s m {steps = steps} r) = run_policy (step_kept s m k) r ∙ ap (λ p. run p (commands_of steps)) (step_taken s m k)
 
 -- A decision is what the cases tell of it.
-decides_told : (why : List explain.Row) (r : Decision) → Decides (house-of.told why (decided.told r)) r
-unfolding Decides house-of.told decided.told
-decides_told why (decision.Grant k) = refl
-decides_told [] decision.Deny = refl
-decides_told (row ∷ why) decision.Deny = refl
-decides_told why (decision.Refused n) = refl
+decides_told : (why : List explain.Row) (r : Result Decision Refusal) → Decides (house-of.told why (decided.told r)) r
+unfolding Decides house-of.told result.told decided.verdict_of
+decides_told why (Ok (decision.Grant k)) = refl
+decides_told [] (Ok decision.Deny) = refl
+decides_told (row ∷ why) (Ok decision.Deny) = refl
+decides_told why (Err x) = record { why = x; is = refl; its_number = refl }
 
 -- so is an outcome of a command, on words that hold a table and an index of 32,768 bytes
-commands_told : (words bytes : List ℕ) (c : Command) (r : Outcome) (words' bytes' : List ℕ) → allows.command words bytes c r words' bytes'
+commands_told : (words bytes : List ℕ) (c : Command) (r : Result (Unit {0}) Refusal) (words' bytes' : List ℕ) → allows.command words bytes c r words' bytes'
     → holds_table words ≡ true → length bytes ≡ 32768
     → Commands (cond (eqb (command_refusal (policy_of words) c) 0) accepts (refuses (command_refusal (policy_of words) c))) r
 unfolding Commands command_refusal
@@ -109,18 +113,18 @@ first_row p q {row} {l} e n out w = record {
 }
 
 -- an explanation is what is told of the plain decision, with the cause and the number of its first row, where enough rows are lent
-explains_told : (words : List ℕ) (q : Request) (room out : List (List ℕ)) (r : Explanation) → allows.explain_numbers words q room r out
+explains_told : (words : List ℕ) (q : Request) (room out : List (List ℕ)) (r : Result Explanation Refusal) → allows.explain_numbers words q room r out
     → FewRows (policy_of words) (request_of q) → 2 ≤ length room
     → Explains cause_in number_in
     (house-of.told (explain.rows (contained (policy_of words)) (policy_of words) (request_of q)) (decide (memory words) (request_of q))) r out
-unfolding Explains house-of.told decided.told
+unfolding Explains house-of.told result.told decided.verdict_of decide explaining
 explains_told words q room out r e few two = go (decide (memory words) (request_of q)) refl
   where
     enough : length (explain.rows (contained (policy_of words)) (policy_of words) (request_of q)) ≤ length room
     enough = let n = few.few in omega arith
 
     denied : (l : List explain.Row) → explain.rows (contained (policy_of words)) (policy_of words) (request_of q) ≡ l
-        → r ≡ explanation.Deny (length (explain.rows (contained (policy_of words)) (policy_of words) (request_of q)))
+        → r ≡ Ok (explanation.Deny (length (explain.rows (contained (policy_of words)) (policy_of words) (request_of q))))
         → Explains cause_in number_in (house-of.told l (accepted deny)) r out
     denied [] f h = let n = few.some in let z = ap length f in absurd (omega arith)
     denied (row ∷ l) f h =
@@ -130,14 +134,16 @@ explains_told words q room out r e few two = go (decide (memory words) (request_
     go : (a : Answer Verdict) → decide (memory words) (request_of q) ≡ a
         → Explains cause_in number_in
         (house-of.told (explain.rows (contained (policy_of words)) (policy_of words) (request_of q)) a) r out
-    go (refused n) f = (explained.as_decided words q room out r e (decision.Refused n) (sym f)).refuses n refl
+    go (refused n) f =
+        refused_told explained_by r
+        (ap (λ (b : Left). b.answers) e ∙ explained_refused (contained (policy_of words)) (holds_table words) (length room) (policy_of words) (request_of q) f)
     go (accepted (grant k)) f =
-        (length (explain.rows (contained (policy_of words)) (policy_of words) (request_of q)), (explained.as_decided words q room out r e (decision.Grant k) (sym f)).grants k refl enough)
+        (length (explain.rows (contained (policy_of words)) (policy_of words) (request_of q)), (explained.as_decided words q room out r e (Ok (decision.Grant k)) (sym f)).grants k refl enough)
     go (accepted deny) f =
-        denied (explain.rows (contained (policy_of words)) (policy_of words) (request_of q)) refl ((explained.as_decided words q room out r e decision.Deny (sym f)).denies refl enough)
+        denied (explain.rows (contained (policy_of words)) (policy_of words) (request_of q)) refl ((explained.as_decided words q room out r e (Ok decision.Deny) (sym f)).denies refl enough)
 
 -- what is so of the numbers of the rows is so of the rows as structs
-in_structs : (o : house-of.Outcome) (r : Explanation) (out : List Row) → Explains cause_in number_in o r (numbers_in out)
+in_structs : (o : house-of.Outcome) (r : Result Explanation Refusal) (out : List Row) → Explains cause_in number_in o r (numbers_in out)
     → Explains cause_of number_of o r out
 unfolding Explains
 in_structs (house-of.grants k) r out h = h
@@ -208,11 +214,11 @@ module _ (k : Case) (i : In k cases) (words bytes : List ℕ) (kept : Kept words
         record { some = leb-true 1 n c.0; few = leb-true n 2 c.1 }
 
     -- the plain decision is the case's outcome
-    plain : (r : Decision) → allows.decide words (struct_of q) r → Decides k.outcome r
+    plain : (r : Result Decision Refusal) → allows.decide words (struct_of q) r → Decides k.outcome r
     plain r f = subst (λ o. Decides o r) (ap (house-of.told _) f ∙ request_is) (decides_told _ r)
 
     -- so is the explanation, with its first row
-    by_numbers : (room out : List (List ℕ)) (r : Explanation) → 2 ≤ length room → allows.explain_numbers words (struct_of q) room r out
+    by_numbers : (room out : List (List ℕ)) (r : Result Explanation Refusal) → 2 ≤ length room → allows.explain_numbers words (struct_of q) room r out
         → Explains cause_in number_in k.outcome r out
     by_numbers room out r two f =
         subst (λ o. Explains cause_in number_in o r out) request_is (explains_told words (struct_of q) room out r f few_rows two)
@@ -229,7 +235,7 @@ module _ (k : Case) (i : In k cases) (words bytes : List ℕ) (kept : Kept words
     }
 
   -- a command is
-  command_answered : (c : Command) → k.question ≡ a_command c → (r : Outcome) (words' bytes' : List ℕ) → allows.command words bytes c r words' bytes'
+  command_answered : (c : Command) → k.question ≡ a_command c → (r : Result (Unit {0}) Refusal) (words' bytes' : List ℕ) → allows.command words bytes c r words' bytes'
       → Commands k.outcome r
   unfolding answer_to
   command_answered c asks r words' bytes' f =

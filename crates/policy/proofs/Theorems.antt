@@ -44,7 +44,7 @@ refusals_exact = record {
   explain_numbers = explain_refuses;
   explain = explain_structs_refuses;
   command = λ words bytes c r words' bytes' k.
-      record { exactly = command.refusals_exact k; untouched = λ n. command.refused_leaves_all k };
+      record { exactly = command.refusals_exact k; untouched = λ n h. command.refused_leaves_all k h.is };
 }
 
 -- contains answers within exactly where x is within y by chains of assignments, and outside exactly where it is not

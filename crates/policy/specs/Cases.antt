@@ -1,14 +1,14 @@
 -- 01, "The small house": what the public calls must answer in the cases K1 to K12, the table `House.cases`. The theorem `small_house` of
 -- proofs/Theorems.antt is of type `SmallHouse`.
 -- Assumes nothing.
-use Rattle.std.specs.Prelude.{◌≡◌, true, List, ◌∷◌, ℕ, ◌≤◌, length, get_or}
+use Rattle.std.specs.Prelude.{◌≡◌, Result, Ok, true, List, ◌∷◌, ℕ, ◌≤◌, length, get_or}
 use Rattle.model.specs.Lists.{In}
 use Rattle.model.specs.Request.{Request as Asks}
 use Rattle.model.specs.Index.{index_of}
 use Rattle.model.specs.House.{house, Question, Outcome as Expected, Case, a_request, a_command, grants, denies, refuses, accepts, cases}
 use Rattle.table.specs.View.{holds_table, policy_of}
-use Rattle.table.specs.declared.Outcome.{Outcome}
-use Rattle.table.specs.declared.Outcome.TheVariants as outcome
+use Rattle.answer.specs.declared.Refusal.{Refusal}
+use Rattle.answer.specs.Answers.{IsRefused}
 use Rattle.request.specs.declared.Request.{Request}
 use Rattle.decide.specs.declared.Decision.{Decision}
 use Rattle.decide.specs.declared.Decision.TheVariants as decision
@@ -19,10 +19,10 @@ use Rattle.history.specs.Steps.{Step, Run, commands_of, Ran}
 use Rattle.policy.specs.Allows as allows
 
 -- What is expected in a case, as the result of each call: of a decision
-unfoldable pub Decides : Expected → Decision → Type 0
-Decides (grants k) r = r ≡ decision.Grant k
-Decides (denies cause number) r = r ≡ decision.Deny
-Decides (refuses n) r = r ≡ decision.Refused n
+unfoldable pub Decides : Expected → Result Decision Refusal → Type 0
+Decides (grants k) r = r ≡ Ok (decision.Grant k)
+Decides (denies cause number) r = r ≡ Ok decision.Deny
+Decides (refuses n) r = IsRefused r n
 Decides accepts r = ⊥
 
 -- the first of the rows has this cause and this number
@@ -34,18 +34,18 @@ pub record FirstRow {R : Type 0} (cause_at number_at : R → ℕ) (rows : List R
   pub its_number : number_at row ≡ number
 
 -- of an explanation, with the rows that it leaves: of a deny the first row tells the cause and the number
-unfoldable pub Explains : {R : Type 0} (cause_at number_at : R → ℕ) → Expected → Explanation → (rows : List R) → Type 0
-Explains cause_at number_at (grants k) r rows = (n : ℕ) × (r ≡ explanation.Grant k n)
-Explains cause_at number_at (denies cause number) r rows = ((n : ℕ) × (r ≡ explanation.Deny n)) × FirstRow cause_at number_at rows cause number
-Explains cause_at number_at (refuses n) r rows = r ≡ explanation.Refused n
+unfoldable pub Explains : {R : Type 0} (cause_at number_at : R → ℕ) → Expected → Result Explanation Refusal → (rows : List R) → Type 0
+Explains cause_at number_at (grants k) r rows = (n : ℕ) × (r ≡ Ok (explanation.Grant k n))
+Explains cause_at number_at (denies cause number) r rows = ((n : ℕ) × (r ≡ Ok (explanation.Deny n))) × FirstRow cause_at number_at rows cause number
+Explains cause_at number_at (refuses n) r rows = IsRefused r n
 Explains cause_at number_at accepts r rows = ⊥
 
 -- of a command
-unfoldable pub Commands : Expected → Outcome → Type 0
+unfoldable pub Commands : Expected → Result (Unit {0}) Refusal → Type 0
 Commands (grants k) r = ⊥
 Commands (denies cause number) r = ⊥
-Commands (refuses n) r = r ≡ outcome.Refused n
-Commands accepts r = r ≡ outcome.Done
+Commands (refuses n) r = IsRefused r n
+Commands accepts r = r ≡ Ok tt
 
 -- the cause and the number of a row: of eight numbers
 abbrev pub cause_in : List ℕ → ℕ
@@ -68,18 +68,18 @@ struct_of q = record { process = q.process; operation = q.operation; first = q.f
 -- The request put to each of the four calls that take one, on these words and these bytes: every result that the call's contract allows is what
 -- is expected. Two lent rows are enough.
 pub record RequestAnswered (q : Request) (o : Expected) (words bytes : List ℕ) : Type 0 where
-  pub decide : (r : Decision) → allows.decide words q r → Decides o r
-  pub decide_indexed : (r : Decision) → allows.decide_indexed words bytes q r → Decides o r
-  pub explain_numbers : (rows rows' : List (List ℕ)) (r : Explanation) → 2 ≤ length rows → allows.explain_numbers words q rows r rows'
+  pub decide : (r : Result Decision Refusal) → allows.decide words q r → Decides o r
+  pub decide_indexed : (r : Result Decision Refusal) → allows.decide_indexed words bytes q r → Decides o r
+  pub explain_numbers : (rows rows' : List (List ℕ)) (r : Result Explanation Refusal) → 2 ≤ length rows → allows.explain_numbers words q rows r rows'
       → Explains cause_in number_in o r rows'
-  pub explain : (rows rows' : List Row) (r : Explanation) → 2 ≤ length rows → allows.explain words q rows r rows'
+  pub explain : (rows rows' : List Row) (r : Result Explanation Refusal) → 2 ≤ length rows → allows.explain words q rows r rows'
       → Explains cause_of number_of o r rows'
 
 -- The question of a case, a request or a command, put to the calls that take it: every result that their contracts allow is what is expected.
 unfoldable pub Answered : Question → Expected → (words bytes : List ℕ) → Type 0
 Answered (a_request q) o words bytes = RequestAnswered (struct_of q) o words bytes
 Answered (a_command c) o words bytes =
-    (r : Outcome) (words' bytes' : List ℕ) → allows.command words bytes c r words' bytes' → Commands o r
+    (r : Result (Unit {0}) Refusal) (words' bytes' : List ℕ) → allows.command words bytes c r words' bytes' → Commands o r
 
 -- small_house. K1 to K12 as one table under one statement.
 pub record SmallHouse : Type 0 where

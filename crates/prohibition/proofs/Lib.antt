@@ -1,5 +1,4 @@
 pub mod Passed
-pub mod Subjects
-pub mod Refused
+pub mod Empty
 pub mod TooLong
 pub mod Whole

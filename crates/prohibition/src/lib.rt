@@ -27,14 +27,7 @@ const MOST_LISTED: usize = 4;
 fn are_ids(list: &[u32]) -> bool
     ensures { result ≡ all_of is_element_id list.now }
 {
-    let mut i = 0;
-    while i < list.len() {
-        if !table::is_element_id(list[i]) {
-            return false;
-        }
-        i += 1;
-    }
-    true
+    list.iter().all(|x| table::is_element_id(*x))
 }
 
 // Each element of the list is there.
@@ -42,14 +35,7 @@ fn are_there(mem: &[u32], list: &[u32]) -> bool
     requires { Table mem.now }
     ensures { result ≡ all_of (is_there (policy_of mem.now)) list.now }
 {
-    let mut i = 0;
-    while i < list.len() {
-        if !table::is_there(mem, list[i]) {
-            return false;
-        }
-        i += 1;
-    }
-    true
+    list.iter().all(|x| table::is_there(mem, *x))
 }
 
 // Each element of the list is an attribute.
@@ -57,51 +43,39 @@ fn are_attributes(mem: &[u32], list: &[u32]) -> bool
     requires { Table mem.now }
     ensures { result ≡ are_attributes (policy_of mem.now) list.now }
 {
-    let mut i = 0;
-    while i < list.len() {
-        if !kinds::is_attribute(table::kind_of(mem, list[i])) {
-            return false;
-        }
-        i += 1;
-    }
-    true
+    list.iter()
+        .all(|x| kinds::is_attribute(table::kind_of(mem, *x)))
 }
 
 // The list strictly rises.
 fn is_rising(list: &[u32]) -> bool
     ensures { result ≡ rising_ids list.now }
 {
-    let mut i = 1;
-    while i < list.len() {
-        if list[i] <= list[i - 1] {
-            return false;
-        }
-        i += 1;
-    }
-    true
+    list.is_sorted_by(|a, b| a < b)
 }
 
 // s is the sort of a subject, 1 to 3.
+#[tactic(auto, unfolding(model::specs::Policy::is_sort))]
 fn is_sort(s: u32) -> bool
     ensures { result ≡ is_sort s }
 {
-    if s < BY_USER {
-        return false;
-    }
-    s <= BY_ATTRIBUTE
+    (BY_USER..=BY_ATTRIBUTE).contains(&s)
 }
 
 // The subject is an id of what its sort says.
+#[tactic(auto, unfolding(model::specs::Sound::subject_in_range))]
 fn is_subject_in_range(sort: u32, subject: u32) -> bool
     ensures { result ≡ subject_in_range (prohibition sort subject 0 0 [] []) }
 {
     if sort == BY_PROCESS {
-        return table::is_process_id(subject);
+        table::is_process_id(subject)
+    } else {
+        table::is_element_id(subject)
     }
-    table::is_element_id(subject)
 }
 
 // Whether a number that the prohibition is given by is out of range. The rights play no part.
+#[tactic(auto, using(model::proofs::Truth::all_append), unfolding(model::specs::Command::bad_prohibition, model::specs::Sound::subject_in_range, model::specs::Policy::is_form))]
 pub fn is_out_of_range(
     sort: u32,
     subject: u32,
@@ -111,33 +85,28 @@ pub fn is_out_of_range(
 ) -> bool
     ensures { result ≡ bad_prohibition (prohibition sort subject form 0 inclusion.now exclusion.now) }
 {
-    if !is_sort(sort) {
-        return true;
-    }
-    if 1 < form {
-        return true;
-    }
-    if !is_subject_in_range(sort, subject) {
-        return true;
-    }
-    if !are_ids(inclusion) {
-        return true;
-    }
-    !are_ids(exclusion)
+    !is_sort(sort)
+        || 1 < form
+        || !is_subject_in_range(sort, subject)
+        || !are_ids(inclusion)
+        || !are_ids(exclusion)
 }
 
 // Whether the subject is there.
+#[tactic(auto, unfolding(model::specs::Sound::subject_there, model::specs::Policy::is_process))]
 fn is_subject_there(mem: &[u32], sort: u32, subject: u32) -> bool
     requires { Table mem.now }
     ensures { result ≡ subject_there (policy_of mem.now) (prohibition sort subject 0 0 [] []) }
 {
     if sort == BY_PROCESS {
-        return table::user_of(mem, subject) != 0;
+        table::user_of(mem, subject) != 0
+    } else {
+        table::is_there(mem, subject)
     }
-    table::is_there(mem, subject)
 }
 
 // Whether the subject or a listed attribute is not there. Neither form nor rights play a part.
+#[tactic(auto, using(model::proofs::Truth::all_append), unfolding(model::specs::Command::absent_in, model::specs::Sound::subject_there))]
 pub fn names_absent(
     mem: &[u32],
     sort: u32,
@@ -148,30 +117,26 @@ pub fn names_absent(
     requires { Table mem.now }
     ensures { result ≡ absent_in (policy_of mem.now) (prohibition sort subject 0 0 inclusion.now exclusion.now) }
 {
-    if !is_subject_there(mem, sort, subject) {
-        return true;
-    }
-    if !are_there(mem, inclusion) {
-        return true;
-    }
-    !are_there(mem, exclusion)
+    !is_subject_there(mem, sort, subject)
+        || !are_there(mem, inclusion)
+        || !are_there(mem, exclusion)
 }
 
 // Whether the subject is of the kind that its sort says.
+#[tactic(auto, unfolding(model::specs::Sound::subject_of_kind))]
 fn is_subject_of_kind(mem: &[u32], sort: u32, subject: u32) -> bool
     requires { Table mem.now }
     ensures { result ≡ subject_of_kind (policy_of mem.now) (prohibition sort subject 0 0 [] []) }
 {
-    if sort == BY_PROCESS {
-        return true;
+    match sort {
+        BY_PROCESS => true,
+        BY_USER => table::kind_of(mem, subject) == USER,
+        _ => table::kind_of(mem, subject) == USER_ATTRIBUTE,
     }
-    if sort == BY_USER {
-        return table::kind_of(mem, subject) == USER;
-    }
-    table::kind_of(mem, subject) == USER_ATTRIBUTE
 }
 
 // Whether the subject or a listed attribute is of another kind. Neither form nor rights play a part.
+#[tactic(auto, using(model::proofs::Truth::all_append), unfolding(model::specs::Command::wrong_kind_in, model::specs::Sound::subject_of_kind, crate::specs::Lists::are_attributes))]
 pub fn names_other_kind(
     mem: &[u32],
     sort: u32,
@@ -182,45 +147,33 @@ pub fn names_other_kind(
     requires { Table mem.now }
     ensures { result ≡ wrong_kind_in (policy_of mem.now) (prohibition sort subject 0 0 inclusion.now exclusion.now) }
 {
-    if !is_subject_of_kind(mem, sort, subject) {
-        return true;
-    }
-    if !are_attributes(mem, inclusion) {
-        return true;
-    }
-    !are_attributes(mem, exclusion)
+    !is_subject_of_kind(mem, sort, subject)
+        || !are_attributes(mem, inclusion)
+        || !are_attributes(mem, exclusion)
 }
 
 // Whether the lists are as a prohibition's must be: at most four ids each, each strictly rising, not both empty.
+#[tactic(auto, using(crate::proofs::Empty::some_listed), unfolding(model::specs::Sound::lists_fit))]
 fn do_lists_fit(inclusion: &[u32], exclusion: &[u32]) -> bool
     ensures { result ≡ lists_fit (prohibition 0 0 0 0 inclusion.now exclusion.now) }
 {
-    if MOST_LISTED < inclusion.len() {
-        return false;
-    }
-    if MOST_LISTED < exclusion.len() {
-        return false;
-    }
-    if !is_rising(inclusion) {
-        return false;
-    }
-    if !is_rising(exclusion) {
-        return false;
-    }
-    0 < inclusion.len() + exclusion.len()
+    inclusion.len() <= MOST_LISTED
+        && exclusion.len() <= MOST_LISTED
+        && is_rising(inclusion)
+        && is_rising(exclusion)
+        && 0 < inclusion.len() + exclusion.len()
 }
 
 // Whether the right set is empty or the lists do not fit. Neither subject nor form play a part.
+#[tactic(auto, unfolding(model::specs::Command::ill_formed, model::specs::Sound::lists_fit))]
 pub fn is_ill_formed(rights: u32, inclusion: &[u32], exclusion: &[u32]) -> bool
     ensures { result ≡ ill_formed (prohibition 0 0 0 rights inclusion.now exclusion.now) }
 {
-    if rights == 0 {
-        return true;
-    }
-    !do_lists_fit(inclusion, exclusion)
+    rights == 0 || !do_lists_fit(inclusion, exclusion)
 }
 
 // Whether the prohibition is there, by its exact fields: none has a list of more than four.
+#[tactic(auto, using(crate::proofs::TooLong::long_inclusion_absent, crate::proofs::TooLong::long_exclusion_absent))]
 pub fn is_there(
     mem: &[u32],
     sort: u32,
@@ -236,11 +189,7 @@ pub fn is_there(
     requires form_bound { form ≤ 1 }
     ensures { result ≡ has_prohibition (policy_of mem.now) (prohibition sort subject form rights inclusion.now exclusion.now) }
 {
-    if MOST_LISTED < inclusion.len() {
-        return false;
-    }
-    if MOST_LISTED < exclusion.len() {
-        return false;
-    }
-    store::has_prohibition(mem, sort, subject, form, rights, inclusion, exclusion)
+    inclusion.len() <= MOST_LISTED
+        && exclusion.len() <= MOST_LISTED
+        && store::has_prohibition(mem, sort, subject, form, rights, inclusion, exclusion)
 }

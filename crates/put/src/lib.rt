@@ -21,14 +21,11 @@ fn numbers(mem: &[u32], from: usize, n: usize, width: u32, out: &mut [u8], at: u
     requires reaches { Reaches out.old at (width * n) }
     ensures { Put out.old out.new at (number_bits mem.now from n width) result }
 {
-    let mut p = at;
-    let mut i = 0;
-    while i < n {
-        let c = Cursor { at: p }.write(out, width, mem[from + i]);
-        p = c.at;
-        i += 1;
+    let mut c = Cursor { at };
+    for word in &mem[from..from + n] {
+        c = c.write(out, width, *word);
     }
-    p
+    c.at
 }
 
 // Writes element x, where it is there: its id, and its kind in three bits. Answers the place behind it, as each function here does.
@@ -43,8 +40,7 @@ fn element(mem: &[u32], x: u32, out: &mut [u8], at: usize) -> usize
     if kind == 0 {
         return at;
     }
-    let c = Cursor { at }.write(out, 12, x * 8 + kind % 8);
-    c.at
+    Cursor { at }.write(out, 12, x * 8 + kind % 8).at
 }
 
 // Writes the elements.
@@ -54,10 +50,8 @@ pub fn elements(mem: &[u32], out: &mut [u8], at: usize) -> usize
     ensures { Put out.old out.new at (group_bits element_bits (policy_of mem.now).elements) result }
 {
     let mut p = at;
-    let mut x = 1;
-    while x < 512 {
+    for x in 1..512 {
         p = element(mem, x, out, p);
-        x += 1;
     }
     p
 }
@@ -74,8 +68,7 @@ fn process(mem: &[u32], i: u32, out: &mut [u8], at: usize) -> usize
     if user == 0 {
         return at;
     }
-    let c = Cursor { at }.write(out, 17, i * 512 + user % 512);
-    c.at
+    Cursor { at }.write(out, 17, i * 512 + user % 512).at
 }
 
 // Writes the processes.
@@ -85,10 +78,8 @@ pub fn processes(mem: &[u32], out: &mut [u8], at: usize) -> usize
     ensures { Put out.old out.new at (group_bits process_bits (policy_of mem.now).processes) result }
 {
     let mut p = at;
-    let mut i = 1;
-    while i < 256 {
+    for i in 1..256 {
         p = process(mem, i, out, p);
-        i += 1;
     }
     p
 }
@@ -108,16 +99,12 @@ pub fn associations(mem: &[u32], out: &mut [u8], at: usize) -> usize
     requires reaches { Reaches out.old at (length (group_bits association_bits (policy_of mem.now).associations)) }
     ensures { Put out.old out.new at (group_bits association_bits (policy_of mem.now).associations) result }
 {
-    let n = table::association_count(mem);
-    let mut p = at;
-    let mut i = 0;
-    while i < n {
-        let c = Cursor { at: p }.write(out, 18, mem[ASSOCIATIONS + 2 * i]);
-        let d = c.write(out, 32, mem[ASSOCIATIONS + 2 * i + 1]);
-        p = d.at;
-        i += 1;
+    let mut c = Cursor { at };
+    for i in 0..table::association_count(mem) {
+        c = c.write(out, 18, mem[ASSOCIATIONS + 2 * i]);
+        c = c.write(out, 32, mem[ASSOCIATIONS + 2 * i + 1]);
     }
-    p
+    c.at
 }
 
 // Writes the first three words of the prohibition that starts at a word: the low 12 bits of its first, its rights, its counts.
@@ -126,10 +113,11 @@ fn limits(mem: &[u32], start: usize, out: &mut [u8], at: usize) -> usize
     requires reaches { Reaches out.old at 50 }
     ensures { Put out.old out.new at (limit_bits mem.now start) result }
 {
-    let c = Cursor { at }.write(out, 12, mem[start]);
-    let d = c.write(out, 32, mem[start + 1]);
-    let e = d.write(out, 6, mem[start + 2]);
-    e.at
+    Cursor { at }
+        .write(out, 12, mem[start])
+        .write(out, 32, mem[start + 1])
+        .write(out, 6, mem[start + 2])
+        .at
 }
 
 // Writes prohibition i: its first three words, its ids.
@@ -151,12 +139,9 @@ pub fn prohibitions(mem: &[u32], out: &mut [u8], at: usize) -> usize
     requires reaches { Reaches out.old at (length (group_bits prohibition_bits (policy_of mem.now).prohibitions)) }
     ensures { Put out.old out.new at (group_bits prohibition_bits (policy_of mem.now).prohibitions) result }
 {
-    let n = table::prohibition_count(mem);
     let mut p = at;
-    let mut i = 0;
-    while i < n {
+    for i in 0..table::prohibition_count(mem) {
         p = prohibition(mem, i, out, p);
-        i += 1;
     }
     p
 }

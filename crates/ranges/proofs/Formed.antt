@@ -1,19 +1,16 @@
--- A prohibition of a table: that it is well formed, in range and fits, by its lists as parts of the words.
+-- A prohibition of a table: that it is well formed and in range, by its lists as parts of the words.
 -- Assumes nothing.
 use mathlib.Core.Path.{◌≡◌, refl, sym, ◌∙◌}
-use mathlib.Core.Bool.{Bool, true, false, not, ◌&&◌, ◌||◌, not-not}
-use mathlib.Core.List.{List, [], ◌∷◌}
+use mathlib.Core.Bool.{Bool, not, ◌&&◌, not-not}
+use mathlib.Core.List.{List}
 use Prim.Native.Nat.{ℕ, ◌+◌, ◌*◌, ◌-◌, ◌^◌, ◌<◌}
 use native.Mathlib.Omega.{arith}
 use native.Mathlib.Decide.{dec_lt}
-use borrow.Author.Tests.{not-true, not-false, lt-ltb, le-leb, lt-leb, eq-eqb, ne_eqb}
+use borrow.Author.Tests.{lt-ltb, le-leb, lt-leb, eq-eqb, ne_eqb}
 use lib.ListN.{take, drop}
-use Rattle.model.specs.Lists.{all_of}
-use Rattle.model.specs.Policy.{Prohibition, is_element_id, is_right_set, is_sort, is_form}
-use Rattle.model.specs.Sound.{subject_in_range, listed, lists_fit, prohibition_fits}
+use Rattle.model.specs.Policy.{Prohibition, is_right_set}
+use Rattle.model.specs.Sound.{lists_fit}
 use Rattle.model.specs.Command.{bad_prohibition, ill_formed}
-use Rattle.model.proofs.Truth.{fails_when, clash, and_cut, and_join}
-use Rattle.model.proofs.Image.Truths.{truths}
 use Rattle.table.specs.Layout.{prohibition_count, prohibition_start}
 use Rattle.table.specs.View.{inclusion_count, exclusion_count, prohibition_at}
 use Rattle.table.specs.Facts.{Table, AtMost}
@@ -50,29 +47,3 @@ module _ {mem : List ℕ} (t : Table mem) (i : ℕ) (h : i < prohibition_count m
   bad_told eo ej ef q =
       let b : Prohibition = prohibition_at mem i in
       (rw (inclusion_lent t i h few, exclusion_lent t i h few more, eo, ej, ef) at q) ∙ sym (bad_whole b.sort b.subject b.form b.rights b.inclusion b.exclusion)
-
--- four tests, none of which fails
-none_fails : (s j f a : Bool) → not (not s || not f || not j || not a) ≡ (s && j && f && true && a && true)
-none_fails true true true true = refl
-none_fails true true true false = refl
-none_fails true true false a = refl
-none_fails true false true a = refl
-none_fails true false false a = refl
-none_fails false j f a = refl
-
--- a prohibition, by whether it is well formed
-module _ (b : Prohibition) {r : Bool} (formed : r ≡ (is_right_set b.rights && lists_fit b)) where
-  -- it is not
-  pub form_fails : not r ≡ true → false ≡ prohibition_fits b
-  unfolding prohibition_fits
-  form_fails h = sym (fails_when (prohibition_fits b) (λ p.
-      let c = truths (is_sort b.sort)
-      (subject_in_range b ∷ is_form b.form ∷ is_right_set b.rights ∷ all_of is_element_id (listed b) ∷ lists_fit b ∷ []) p in
-      clash (formed ∙ and_join (is_right_set b.rights) (lists_fit b) c.1.1.1.0 c.1.1.1.1.1.0) (not-true r h)))
-
-  -- it is: it fits exactly if it is in range
-  pub range_decides : not r ≡ false → {q : Bool} → q ≡ bad_prohibition b → not q ≡ prohibition_fits b
-  unfolding bad_prohibition prohibition_fits
-  range_decides h e =
-      let c = and_cut (is_right_set b.rights) (lists_fit b) (sym formed ∙ not-false r h) in
-      rw (e, c.0, c.1) (none_fails (is_sort b.sort) (subject_in_range b) (is_form b.form) (all_of is_element_id (listed b)))

@@ -1,5 +1,4 @@
 pub mod InOrder
-pub mod Fitting
 pub mod Formed
 pub mod ByFields
 pub mod Ordered

@@ -1,35 +1,31 @@
--- The prohibitions of a table in their order: one and the next by those of its words that count, and the loop over all of them.
+-- The prohibitions of a table in their order: one and the next by those of its words that count, and all of them.
 -- Assumes nothing.
 use mathlib.Core.Path.{◌≡◌, refl, sym, ap, ap₂, ◌∙◌}
-use mathlib.Core.Bool.{Bool, true, false, not, and-false}
+use mathlib.Core.Bool.{Bool, ◌&&◌}
 use mathlib.Core.List.{List, map}
 use Prim.Native.Nat.{ℕ, zero, suc, ◌+◌, ◌*◌, ◌-◌, ◌/◌, ◌%◌, ◌≤◌, ◌<◌}
 use native.Mathlib.Omega.{arith}
-use native.Mathlib.Decide.{dec_lt}
-use borrow.Author.Tests.{not-true, not-false}
 use lib.ListN.{take, drop}
 use lib.Seq.{take-take, drop-drop, get_or-take, get_or-drop}
-use Rattle.model.specs.Lists.{In, before, precedes, rising, tabulate}
+use Rattle.model.specs.Lists.{In, all_of, before, precedes, rising, tabulate}
 use Rattle.model.specs.Policy.{Prohibition, prohibition_fields}
 use Rattle.table.specs.Layout.{word, prohibition_count, prohibition_start}
 use Rattle.table.specs.View.{inclusion_count, exclusion_count, policy_of}
 use Rattle.table.specs.Facts.{Table, AtMost}
-use Rattle.table.proofs.Tabled.{in_tabulate, rising_tabulate}
+use Rattle.table.proofs.Tabled.{in_tabulate}
 use Rattle.group.specs.Group.{group}
-use Rattle.group.proofs.Records.{records_at}
+use Rattle.group.proofs.Records.{records_at, tabulate_alike}
 use Rattle.group.proofs.Kept.{wide_group}
 use Rattle.store.proofs.Mapped.{map_tabulate}
 use Rattle.store.proofs.Recorded.{prohibition_in, fronts_order}
 use Rattle.store.proofs.Prohibited.{prohibitions_group, prohibitions_fit, group_short}
 use Rattle.ranges.specs.Rising.{before_next}
 
--- a list in which one is not before the next does not rise
-rising_breaks : {A : Type 0} (key : A → List ℕ) (n : ℕ) (f : ℕ → A) (i : ℕ) → suc i < n → before (key (f i)) (key (f (suc i))) ≡ false → rising key (tabulate n f) ≡ false
-unfolding tabulate rising precedes
-rising_breaks key zero f i l h = absurd (omega arith)
-rising_breaks key (suc zero) f i l h = absurd (omega arith)
-rising_breaks key (suc (suc n)) f zero l h = rw h refl
-rising_breaks key (suc (suc n)) f (suc i) l h = rw (rising_breaks key (suc n) (λ j. f (suc j)) i (omega arith) h) (and-false (before (key (f 0)) (key (f 1))))
+-- a list that is told off rises exactly if each is before the next
+rising_each : {A : Type 0} (key : A → List ℕ) (m : ℕ) (f : ℕ → A) → rising key (tabulate (suc m) f) ≡ all_of (λ (b : Bool). b) (tabulate m (λ i. before (key (f i)) (key (f (suc i)))))
+unfolding all_of tabulate rising precedes
+rising_each key zero f = refl
+rising_each key (suc m) f = ap (λ (b : Bool). before (key (f 0)) (key (f 1)) && b) (rising_each key m (λ i. f (suc i)))
 
 -- record i, of eleven words
 abbrev record_at : List ℕ → (i : ℕ) → List ℕ
@@ -79,37 +75,27 @@ module _ {mem : List ℕ} (t : Table mem) where
       ∙ ap (λ (m : ℕ). before (take m r) (take m s)) e
       ∙ fronts_order r s (w.each r a) (w.each s b) (group_short t r a) (group_short t s b)
 
--- the first i prohibitions rise
-pub record RiseTo (mem : List ℕ) (i : ℕ) : Type 0 where
-  pub some : 1 ≤ i
-  pub each : (k : ℕ) → suc k < i → in_order mem k ≡ true
+-- prohibition i is before the next, by the words of it that count
+unfoldable pub is_next : List ℕ → (i : ℕ) → Bool
+is_next mem i = before_next mem (5776 + 11 * i) 11 (3 + (inclusion_count mem (prohibition_start i) + exclusion_count mem (prohibition_start i)))
 
--- the first one alone does
-pub first_rises : (mem : List ℕ) → RiseTo mem 1
-first_rises mem = record { some = omega arith; each = λ k h. absurd (omega arith) }
+module _ {mem : List ℕ} (t : Table mem) where
+  -- so it is before the next by its fields
+  next_told : (i : ℕ) → suc i < prohibition_count mem → is_next mem i ≡ before (prohibition_fields (recorded_at mem i)) (prohibition_fields (recorded_at mem (suc i)))
+  unfolding is_next in_order
+  next_told i h = let s = t.short i (omega arith) in next_in_order t i h (record { is = refl; few = omega (arith, s.few_inclusions, s.few_exclusions) })
 
-module _ {mem : List ℕ} (t : Table mem) {n : ℕ} (count : n ≡ prohibition_count mem) {i : ℕ} (s : RiseTo mem i) where
-  -- all have been looked at
-  pub prohibitions_rise : n ≤ i → true ≡ rising prohibition_fields (policy_of mem).prohibitions
-  unfolding in_order
-  prohibitions_rise h = sym (ap (rising prohibition_fields) (recorded t)
-      ∙ rising_tabulate prohibition_fields (prohibition_count mem) (recorded_at mem) (λ k l. s.each k (omega arith)))
+  all_told : (n : ℕ) → n ≡ prohibition_count mem → all_of (λ (b : Bool). b) (tabulate (n - 1) (λ j. is_next mem (1 + j - 1))) ≡ rising prohibition_fields (tabulate n (recorded_at mem))
+  unfolding all_of tabulate rising
+  all_told zero count = refl
+  all_told (suc m) count =
+      let e : suc m - 1 ≡ m = omega arith in
+      let f : ℕ → Bool = λ j. before (prohibition_fields (recorded_at mem j)) (prohibition_fields (recorded_at mem (suc j))) in
+      rw e (ap (all_of (λ (b : Bool). b)) (tabulate_alike m (λ j. is_next mem (1 + j - 1)) f (λ j l. let s : 1 + j - 1 ≡ j = omega arith in ap (is_next mem) s ∙ next_told j (omega arith)))
+      ∙ sym (rising_each prohibition_fields m (recorded_at mem)))
 
-  module _ (l : i < n) {key : ℕ} (k : AtMost (3 + (inclusion_count mem (prohibition_start (i - 1)) + exclusion_count mem (prohibition_start (i - 1)))) 11 key)
-      {b : Bool} (is : b ≡ before_next mem (5776 + 11 * (i - 1)) 11 key) where
-    -- what was told of the next one
-    next_told : b ≡ in_order mem (i - 1)
-    next_told = is ∙ next_in_order t (i - 1) (omega (arith, s.some)) k
-
-    -- it is behind: the loop goes on
-    pub one_more_rises : not b ≡ false → RiseTo mem (i + 1)
-    one_more_rises h = record {
-      some = omega arith;
-      each = λ j a. elim (dec_lt (suc j) i) [ yes e ↦ s.each j e | no e ↦ let q : j ≡ i - 1 = omega arith in rw q (sym next_told ∙ not-false b h) ];
-    }
-
-    -- it is not: they do not rise
-    pub prohibitions_fall : not b ≡ true → false ≡ rising prohibition_fields (policy_of mem).prohibitions
-    unfolding in_order
-    prohibitions_fall h = sym (ap (rising prohibition_fields) (recorded t)
-        ∙ rising_breaks prohibition_fields (prohibition_count mem) (recorded_at mem) (i - 1) (omega (arith, s.some)) (sym next_told ∙ not-true b h))
+  -- the prohibitions rise exactly if each is before the next
+  pub prohibitions_rise : {n : ℕ} → n ≡ prohibition_count mem → {r : Bool}
+      → r ≡ all_of (λ (b : Bool). b) (tabulate (n - 1) (λ j. is_next mem (1 + j - 1))) → r ≡ rising prohibition_fields (policy_of mem).prohibitions
+  prohibitions_rise {n} count is =
+      is ∙ all_told n count ∙ ap (λ (k : ℕ). rising prohibition_fields (tabulate k (recorded_at mem))) count ∙ ap (rising prohibition_fields) (sym (recorded t))

@@ -1,6 +1,6 @@
 -- The rules that are seen from the fields alone, by those of a table's groups that can break them.
 -- Assumes nothing.
-use mathlib.Core.Path.{◌≡◌, refl, sym, ◌∙◌}
+use mathlib.Core.Path.{◌≡◌, refl}
 use mathlib.Core.Bool.{Bool, true, false, not, ◌&&◌, ◌||◌}
 use mathlib.Core.List.{List}
 use Prim.Native.Nat.{ℕ}
@@ -41,7 +41,7 @@ module _ {mem : List ℕ} (t : Table mem) where
       ) refl
 
   -- a table breaks a rule by its assignments, its associations or its prohibitions alone
-  rule_by_parts : breaks_rule (policy_of mem)
+  pub rule_by_parts : breaks_rule (policy_of mem)
       ≡ (not (all_of assignment_fits (policy_of mem).assignments) || not (all_of association_fits (policy_of mem).associations)
       || not (all_of prohibition_fits (policy_of mem).prohibitions) || not (records_rise mem 2776 2 (association_count mem))
       || not (rising prohibition_fields (policy_of mem).prohibitions))
@@ -50,31 +50,3 @@ module _ {mem : List ℕ} (t : Table mem) where
       rw (limits_kept, elements_fit mem, processes_fit mem, elements_rise mem, assignments_rise t, processes_rise mem, associations_rise_lem t)
       (one_fails (all_of assignment_fits (policy_of mem).assignments) (all_of association_fits (policy_of mem).associations) (all_of prohibition_fits (policy_of mem).prohibitions)
       (rising association_fields (policy_of mem).associations) (rising prohibition_fields (policy_of mem).prohibitions))
-
-  module _ {a : Bool} (assignments : a ≡ all_of assignment_fits (policy_of mem).assignments) where
-    -- not each assignment fits
-    pub broken_assignments : not a ≡ true → true ≡ breaks_rule (policy_of mem)
-    broken_assignments h = sym (rule_by_parts ∙ rw (← assignments, h) refl)
-
-    module _ (ha : not a ≡ false) {b : Bool} (associations : b ≡ all_of association_fits (policy_of mem).associations) where
-      -- not each association fits
-      pub broken_associations : not b ≡ true → true ≡ breaks_rule (policy_of mem)
-      broken_associations h = sym (rule_by_parts ∙ rw (← assignments, ha, ← associations, h) refl)
-
-      module _ (hb : not b ≡ false) {c : Bool} (prohibitions : c ≡ all_of prohibition_fits (policy_of mem).prohibitions) where
-        -- not each prohibition fits
-        pub broken_prohibitions : not c ≡ true → true ≡ breaks_rule (policy_of mem)
-        broken_prohibitions h = sym (rule_by_parts ∙ rw (← assignments, ha, ← associations, hb, ← prohibitions, h) refl)
-
-        module _ (hc : not c ≡ false) {n : ℕ} (count : n ≡ association_count mem) {d : Bool} (order : d ≡ records_rise mem 2776 2 n) where
-          -- the associations do not rise
-          pub broken_order : not d ≡ true → true ≡ breaks_rule (policy_of mem)
-          broken_order h =
-              let o : d ≡ records_rise mem 2776 2 (association_count mem) = rw count at order in
-              sym (rule_by_parts ∙ rw (← assignments, ha, ← associations, hb, ← prohibitions, hc, ← o, h) refl)
-
-          -- they do: the order of the prohibitions decides
-          pub order_decides : not d ≡ false → {e : Bool} → e ≡ rising prohibition_fields (policy_of mem).prohibitions → not e ≡ breaks_rule (policy_of mem)
-          order_decides hd last =
-              let o : d ≡ records_rise mem 2776 2 (association_count mem) = rw count at order in
-              sym (rule_by_parts ∙ rw (← assignments, ha, ← associations, hb, ← prohibitions, hc, ← o, hd, ← last) refl)

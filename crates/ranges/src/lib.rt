@@ -25,7 +25,7 @@ fn is_before_next(mem: &[u32], at: usize, stride: usize, key: usize) -> bool
     requires key_bound { at + stride + key ≤ 8192 }
     ensures { result ≡ before_next mem.now at stride key }
 {
-    group::place(mem, at + stride, 1, &mem[at..at + key]) == 0
+    &mem[at..at + key] < &mem[at + stride..at + stride + key]
 }
 
 // Whether the n records of `stride` words from `base` on strictly rise.
@@ -34,14 +34,10 @@ fn are_rising(mem: &[u32], base: usize, stride: usize, n: usize) -> bool
     requires n_bound { base + stride * n ≤ 8192 }
     ensures { result ≡ records_rise mem.now base stride n }
 {
-    let mut at = base;
-    let mut i = 1;
-    while i < n {
-        if !is_before_next(mem, at, stride, stride) {
+    for i in 1..n {
+        if !is_before_next(mem, base + stride * (i - 1), stride, stride) {
             return false;
         }
-        at += stride;
-        i += 1;
     }
     true
 }
@@ -61,15 +57,10 @@ fn are_prohibitions_rising(mem: &[u32]) -> bool
     ensures { result ≡ rising prohibition_fields (policy_of mem.now).prohibitions }
 {
     let n = table::prohibition_count(mem);
-    let mut i = 1;
-    while i < n {
+    (1..n).all(|i| {
         let at = PROHIBITIONS + PROHIBITION * (i - 1);
-        if !is_before_next(mem, at, PROHIBITION, prohibition_key(mem, i - 1)) {
-            return false;
-        }
-        i += 1;
-    }
-    true
+        is_before_next(mem, at, PROHIBITION, prohibition_key(mem, i - 1))
+    })
 }
 
 // Whether each assignment names ids of elements.
@@ -78,26 +69,18 @@ fn are_assignments_in_range(mem: &[u32]) -> bool
     ensures { result ≡ all_of assignment_fits (policy_of mem.now).assignments }
 {
     let n = table::assignment_count(mem);
-    let mut i = 0;
-    while i < n {
-        if !table::are_element_ids(table::child_at(mem, i), table::container_at(mem, i)) {
-            return false;
-        }
-        i += 1;
-    }
-    true
+    (0..n).all(|i| table::are_element_ids(table::child_at(mem, i), table::container_at(mem, i)))
 }
 
 // Whether association i names ids of elements, and has a right.
+#[tactic(auto, unfolding(model::specs::Sound::association_fits, model::specs::Policy::is_right_set))]
 fn is_association_in_range(mem: &[u32], i: usize) -> bool
     requires table { Table mem.now }
     requires i_bound { i < association_count mem.now }
     ensures { result ≡ association_fits (association_at mem.now i) }
 {
-    if !table::are_element_ids(table::attribute_at(mem, i), table::target_at(mem, i)) {
-        return false;
-    }
-    0 < table::rights_at(mem, i)
+    table::are_element_ids(table::attribute_at(mem, i), table::target_at(mem, i))
+        && 0 < table::rights_at(mem, i)
 }
 
 // Whether each association does.
@@ -106,14 +89,7 @@ fn are_associations_in_range(mem: &[u32]) -> bool
     ensures { result ≡ all_of association_fits (policy_of mem.now).associations }
 {
     let n = table::association_count(mem);
-    let mut i = 0;
-    while i < n {
-        if !is_association_in_range(mem, i) {
-            return false;
-        }
-        i += 1;
-    }
-    true
+    (0..n).all(|i| is_association_in_range(mem, i))
 }
 
 // Whether prohibition i has a right and its lists are as they must be. A prohibition's ids stand behind its first three words.
@@ -151,15 +127,13 @@ fn is_prohibition_out_of_range(mem: &[u32], i: usize) -> bool
 }
 
 // Whether the fields of prohibition i are in range and its lists as they must be.
+#[tactic(auto, unfolding(model::specs::Sound::prohibition_fits, model::specs::Command::bad_prohibition))]
 fn is_prohibition_in_range(mem: &[u32], i: usize) -> bool
     requires table { Table mem.now }
     requires i_bound { i < prohibition_count mem.now }
     ensures { result ≡ prohibition_fits (prohibition_at mem.now i) }
 {
-    if !is_prohibition_well_formed(mem, i) {
-        return false;
-    }
-    !is_prohibition_out_of_range(mem, i)
+    is_prohibition_well_formed(mem, i) && !is_prohibition_out_of_range(mem, i)
 }
 
 // Whether those of each prohibition are.
@@ -168,38 +142,24 @@ fn are_prohibitions_in_range(mem: &[u32]) -> bool
     ensures { result ≡ all_of prohibition_fits (policy_of mem.now).prohibitions }
 {
     let n = table::prohibition_count(mem);
-    let mut i = 0;
-    while i < n {
-        if !is_prohibition_in_range(mem, i) {
-            return false;
-        }
-        i += 1;
-    }
-    true
+    (0..n).all(|i| is_prohibition_in_range(mem, i))
 }
 
 // Whether the table breaks such a rule. Elements and processes stand in the words by their ids: they cannot. A table's assignments rise, and its
 // counts are within the limits.
+#[tactic(auto, using(crate::proofs::Rules::rule_by_parts))]
 pub fn breaks_rule(mem: &[u32]) -> bool
     requires { Table mem.now }
     ensures { result ≡ breaks_rule (policy_of mem.now) }
 {
-    if !are_assignments_in_range(mem) {
-        return true;
-    }
-    if !are_associations_in_range(mem) {
-        return true;
-    }
-    if !are_prohibitions_in_range(mem) {
-        return true;
-    }
-    if !are_rising(
-        mem,
-        ASSOCIATIONS,
-        ASSOCIATION,
-        table::association_count(mem),
-    ) {
-        return true;
-    }
-    !are_prohibitions_rising(mem)
+    !are_assignments_in_range(mem)
+        || !are_associations_in_range(mem)
+        || !are_prohibitions_in_range(mem)
+        || !are_rising(
+            mem,
+            ASSOCIATIONS,
+            ASSOCIATION,
+            table::association_count(mem),
+        )
+        || !are_prohibitions_rising(mem)
 }

@@ -1,4 +1,4 @@
-// The refusal number of each command, 0 where it is accepted: the lines of 01, lowest first. Of the index only the length is asked.
+// The refusal of each command, where it is refused: the lines of 01, lowest first. Of the index only the length is asked.
 #![tactic(auto)]
 
 ghost use Rattle.std.specs.Prelude.{◌≡◌, not, ◌||◌, ◌≤◌, ◌<◌, eqb};
@@ -6,11 +6,13 @@ ghost use Rattle.model.specs.Policy.{is_element_id, is_process_id, is_kind, allo
 ghost use Rattle.model.specs.Contain.{contained};
 ghost use Rattle.model.specs.Sound.{association_pairs};
 ghost use Rattle.model.specs.Command.{create_class, create_element, assign, deassign, delete_element, create_association, delete_association, create_prohibition, delete_prohibition, start_process, end_process, absent_in, full_of_assignments, full_of_associations, full_of_prohibitions};
+ghost use Rattle.answer.specs.Answers.{refusal_in};
 ghost use Rattle.table.specs.View.{policy_of};
 ghost use Rattle.table.specs.Facts.{Table};
 ghost use Rattle.store.specs.ProhibitionWords.{prohibition};
 ghost use Rattle.refusals.specs.Numbers.{refusal_of, later_refusal};
 
+use answer::Refusal;
 use kinds::{CLASS, USER, USER_ATTRIBUTE};
 use table::{MOST_ASSIGNMENTS, MOST_ASSOCIATIONS, MOST_PROHIBITIONS};
 
@@ -207,158 +209,169 @@ fn is_bad_process(id: u32, user: u32) -> bool
 }
 
 // Create class.
-pub fn create_class(mem: &[u32], bytes: usize, id: u32) -> u32
-    ensures { result ≡ refusal_of mem.now bytes (create_class id) }
+pub fn create_class(mem: &[u32], bytes: usize, id: u32) -> Result<(), Refusal>
+    ensures { refusal_in result ≡ refusal_of mem.now bytes (create_class id) }
 {
     if !table::holds(mem) {
-        return 1;
+        return Err(Refusal::NoTable);
     }
     if is_out_of_range(bytes, !table::is_element_id(id)) {
-        return 2;
+        return Err(Refusal::OutOfRange);
     }
     if table::is_there(mem, id) {
-        return 3;
+        return Err(Refusal::AlreadyThere);
     }
-    0
+    Ok(())
 }
 
 // Create element, the table and the numbers being right.
-fn create_element_in(mem: &[u32], id: u32, kind: u32, container: u32) -> u32
+fn create_element_in(mem: &[u32], id: u32, kind: u32, container: u32) -> Result<(), Refusal>
     requires table { Table mem.now }
     requires id_bound { id < 512 }
     requires container_bound { container < 512 }
-    ensures { result ≡ later_refusal (policy_of mem.now) (create_element id kind container) }
+    ensures { refusal_in result ≡ later_refusal (policy_of mem.now) (create_element id kind container) }
 {
     if is_taken(mem, id, container) {
-        return 3;
+        return Err(Refusal::AlreadyThere);
     }
     if !table::is_there(mem, container) {
-        return 4;
+        return Err(Refusal::NotThere);
     }
     if is_unplaceable(mem, kind, container) {
-        return 5;
+        return Err(Refusal::WrongKind);
     }
     if is_full_of_assignments(mem) {
-        return 10;
+        return Err(Refusal::NoRoom);
     }
-    0
+    Ok(())
 }
 
 // Create element.
-pub fn create_element(mem: &[u32], bytes: usize, id: u32, kind: u32, container: u32) -> u32
-    ensures { result ≡ refusal_of mem.now bytes (create_element id kind container) }
+pub fn create_element(
+    mem: &[u32],
+    bytes: usize,
+    id: u32,
+    kind: u32,
+    container: u32,
+) -> Result<(), Refusal>
+    ensures { refusal_in result ≡ refusal_of mem.now bytes (create_element id kind container) }
 {
     if !table::holds(mem) {
-        return 1;
+        return Err(Refusal::NoTable);
     }
     if is_out_of_range(bytes, is_bad_element(id, kind, container)) {
-        return 2;
+        return Err(Refusal::OutOfRange);
     }
     create_element_in(mem, id, kind, container)
 }
 
 // Assign, the table and the ids being right.
-fn assign_in(mem: &[u32], child: u32, container: u32) -> u32
+fn assign_in(mem: &[u32], child: u32, container: u32) -> Result<(), Refusal>
     requires table { Table mem.now }
     requires child_bound { child < 512 }
     requires container_bound { container < 512 }
-    ensures { result ≡ later_refusal (policy_of mem.now) (assign child container) }
+    ensures { refusal_in result ≡ later_refusal (policy_of mem.now) (assign child container) }
 {
     if table::is_assigned(mem, child, container) {
-        return 3;
+        return Err(Refusal::AlreadyThere);
     }
     if !table::are_there(mem, child, container) {
-        return 4;
+        return Err(Refusal::NotThere);
     }
     if !may_be_assigned(mem, child, container) {
-        return 5;
+        return Err(Refusal::WrongKind);
     }
     if would_close(mem, child, container) {
-        return 7;
+        return Err(Refusal::ClosesCycle);
     }
     if is_full_of_assignments(mem) {
-        return 10;
+        return Err(Refusal::NoRoom);
     }
-    0
+    Ok(())
 }
 
 // Assign.
-pub fn assign(mem: &[u32], bytes: usize, child: u32, container: u32) -> u32
-    ensures { result ≡ refusal_of mem.now bytes (assign child container) }
+pub fn assign(mem: &[u32], bytes: usize, child: u32, container: u32) -> Result<(), Refusal>
+    ensures { refusal_in result ≡ refusal_of mem.now bytes (assign child container) }
 {
     if !table::holds(mem) {
-        return 1;
+        return Err(Refusal::NoTable);
     }
     if is_out_of_range(bytes, are_bad_ids(child, container)) {
-        return 2;
+        return Err(Refusal::OutOfRange);
     }
     assign_in(mem, child, container)
 }
 
 // Deassign.
-pub fn deassign(mem: &[u32], bytes: usize, child: u32, container: u32) -> u32
-    ensures { result ≡ refusal_of mem.now bytes (deassign child container) }
+pub fn deassign(mem: &[u32], bytes: usize, child: u32, container: u32) -> Result<(), Refusal>
+    ensures { refusal_in result ≡ refusal_of mem.now bytes (deassign child container) }
 {
     if !table::holds(mem) {
-        return 1;
+        return Err(Refusal::NoTable);
     }
     if is_out_of_range(bytes, are_bad_ids(child, container)) {
-        return 2;
+        return Err(Refusal::OutOfRange);
     }
     if lacks_assignment(mem, child, container) {
-        return 4;
+        return Err(Refusal::NotThere);
     }
     if !may_be_assigned(mem, child, container) {
-        return 5;
+        return Err(Refusal::WrongKind);
     }
     if named::has_one_assignment(mem, child) {
-        return 8;
+        return Err(Refusal::OnlyAssignment);
     }
-    0
+    Ok(())
 }
 
 // Delete element.
-pub fn delete_element(mem: &[u32], bytes: usize, id: u32) -> u32
-    ensures { result ≡ refusal_of mem.now bytes (delete_element id) }
+pub fn delete_element(mem: &[u32], bytes: usize, id: u32) -> Result<(), Refusal>
+    ensures { refusal_in result ≡ refusal_of mem.now bytes (delete_element id) }
 {
     if !table::holds(mem) {
-        return 1;
+        return Err(Refusal::NoTable);
     }
     if is_out_of_range(bytes, !table::is_element_id(id)) {
-        return 2;
+        return Err(Refusal::OutOfRange);
     }
     if !table::is_there(mem, id) {
-        return 4;
+        return Err(Refusal::NotThere);
     }
     if named::is_in_use(mem, id) {
-        return 9;
+        return Err(Refusal::InUse);
     }
-    0
+    Ok(())
 }
 
 // Create association, the table and the ids being right.
-fn create_association_in(mem: &[u32], attribute: u32, target: u32, rights: u32) -> u32
+fn create_association_in(
+    mem: &[u32],
+    attribute: u32,
+    target: u32,
+    rights: u32,
+) -> Result<(), Refusal>
     requires table { Table mem.now }
     requires attribute_bound { attribute < 512 }
     requires target_bound { target < 512 }
-    ensures { result ≡ later_refusal (policy_of mem.now) (create_association (record { attribute = attribute; target = target; rights = rights })) }
+    ensures { refusal_in result ≡ later_refusal (policy_of mem.now) (create_association (record { attribute = attribute; target = target; rights = rights })) }
 {
     if store::has_association(mem, attribute, target, rights) {
-        return 3;
+        return Err(Refusal::AlreadyThere);
     }
     if !table::are_there(mem, attribute, target) {
-        return 4;
+        return Err(Refusal::NotThere);
     }
     if !may_be_associated(mem, attribute, target) {
-        return 5;
+        return Err(Refusal::WrongKind);
     }
     if is_empty(rights) {
-        return 6;
+        return Err(Refusal::IllFormed);
     }
     if is_full_of_associations(mem) {
-        return 10;
+        return Err(Refusal::NoRoom);
     }
-    0
+    Ok(())
 }
 
 // Create association.
@@ -368,14 +381,14 @@ pub fn create_association(
     attribute: u32,
     target: u32,
     rights: u32,
-) -> u32
-    ensures { result ≡ refusal_of mem.now bytes (create_association (record { attribute = attribute; target = target; rights = rights })) }
+) -> Result<(), Refusal>
+    ensures { refusal_in result ≡ refusal_of mem.now bytes (create_association (record { attribute = attribute; target = target; rights = rights })) }
 {
     if !table::holds(mem) {
-        return 1;
+        return Err(Refusal::NoTable);
     }
     if is_out_of_range(bytes, are_bad_ids(attribute, target)) {
-        return 2;
+        return Err(Refusal::OutOfRange);
     }
     create_association_in(mem, attribute, target, rights)
 }
@@ -387,25 +400,25 @@ pub fn delete_association(
     attribute: u32,
     target: u32,
     rights: u32,
-) -> u32
-    ensures { result ≡ refusal_of mem.now bytes (delete_association (record { attribute = attribute; target = target; rights = rights })) }
+) -> Result<(), Refusal>
+    ensures { refusal_in result ≡ refusal_of mem.now bytes (delete_association (record { attribute = attribute; target = target; rights = rights })) }
 {
     if !table::holds(mem) {
-        return 1;
+        return Err(Refusal::NoTable);
     }
     if is_out_of_range(bytes, are_bad_ids(attribute, target)) {
-        return 2;
+        return Err(Refusal::OutOfRange);
     }
     if lacks_association(mem, attribute, target, rights) {
-        return 4;
+        return Err(Refusal::NotThere);
     }
     if !may_be_associated(mem, attribute, target) {
-        return 5;
+        return Err(Refusal::WrongKind);
     }
     if is_empty(rights) {
-        return 6;
+        return Err(Refusal::IllFormed);
     }
-    0
+    Ok(())
 }
 
 // Create prohibition, the table and the numbers being right.
@@ -417,29 +430,29 @@ fn create_prohibition_in(
     rights: u32,
     inclusion: &[u32],
     exclusion: &[u32],
-) -> u32
+) -> Result<(), Refusal>
     requires table { Table mem.now }
     requires sort_bound { sort ≤ 3 }
     requires subject_bound { subject < 512 }
     requires form_bound { form ≤ 1 }
-    ensures { result ≡ later_refusal (policy_of mem.now) (create_prohibition (prohibition sort subject form rights inclusion.now exclusion.now)) }
+    ensures { refusal_in result ≡ later_refusal (policy_of mem.now) (create_prohibition (prohibition sort subject form rights inclusion.now exclusion.now)) }
 {
     if prohibition::is_there(mem, sort, subject, form, rights, inclusion, exclusion) {
-        return 3;
+        return Err(Refusal::AlreadyThere);
     }
     if prohibition::names_absent(mem, sort, subject, inclusion, exclusion) {
-        return 4;
+        return Err(Refusal::NotThere);
     }
     if prohibition::names_other_kind(mem, sort, subject, inclusion, exclusion) {
-        return 5;
+        return Err(Refusal::WrongKind);
     }
     if prohibition::is_ill_formed(rights, inclusion, exclusion) {
-        return 6;
+        return Err(Refusal::IllFormed);
     }
     if is_full_of_prohibitions(mem) {
-        return 10;
+        return Err(Refusal::NoRoom);
     }
-    0
+    Ok(())
 }
 
 // Create prohibition.
@@ -452,17 +465,17 @@ pub fn create_prohibition(
     rights: u32,
     inclusion: &[u32],
     exclusion: &[u32],
-) -> u32
-    ensures { result ≡ refusal_of mem.now bytes (create_prohibition (prohibition sort subject form rights inclusion.now exclusion.now)) }
+) -> Result<(), Refusal>
+    ensures { refusal_in result ≡ refusal_of mem.now bytes (create_prohibition (prohibition sort subject form rights inclusion.now exclusion.now)) }
 {
     if !table::holds(mem) {
-        return 1;
+        return Err(Refusal::NoTable);
     }
     if is_out_of_range(
         bytes,
         prohibition::is_out_of_range(sort, subject, form, inclusion, exclusion),
     ) {
-        return 2;
+        return Err(Refusal::OutOfRange);
     }
     create_prohibition_in(mem, sort, subject, form, rights, inclusion, exclusion)
 }
@@ -477,67 +490,67 @@ pub fn delete_prohibition(
     rights: u32,
     inclusion: &[u32],
     exclusion: &[u32],
-) -> u32
-    ensures { result ≡ refusal_of mem.now bytes (delete_prohibition (prohibition sort subject form rights inclusion.now exclusion.now)) }
+) -> Result<(), Refusal>
+    ensures { refusal_in result ≡ refusal_of mem.now bytes (delete_prohibition (prohibition sort subject form rights inclusion.now exclusion.now)) }
 {
     if !table::holds(mem) {
-        return 1;
+        return Err(Refusal::NoTable);
     }
     if is_out_of_range(
         bytes,
         prohibition::is_out_of_range(sort, subject, form, inclusion, exclusion),
     ) {
-        return 2;
+        return Err(Refusal::OutOfRange);
     }
     if lacks_prohibition(mem, sort, subject, form, rights, inclusion, exclusion) {
-        return 4;
+        return Err(Refusal::NotThere);
     }
     if prohibition::names_other_kind(mem, sort, subject, inclusion, exclusion) {
-        return 5;
+        return Err(Refusal::WrongKind);
     }
     if prohibition::is_ill_formed(rights, inclusion, exclusion) {
-        return 6;
+        return Err(Refusal::IllFormed);
     }
-    0
+    Ok(())
 }
 
 // Start process.
-pub fn start_process(mem: &[u32], bytes: usize, id: u32, user: u32) -> u32
-    ensures { result ≡ refusal_of mem.now bytes (start_process id user) }
+pub fn start_process(mem: &[u32], bytes: usize, id: u32, user: u32) -> Result<(), Refusal>
+    ensures { refusal_in result ≡ refusal_of mem.now bytes (start_process id user) }
 {
     if !table::holds(mem) {
-        return 1;
+        return Err(Refusal::NoTable);
     }
     if is_out_of_range(bytes, is_bad_process(id, user)) {
-        return 2;
+        return Err(Refusal::OutOfRange);
     }
     if is_process(mem, id) {
-        return 3;
+        return Err(Refusal::AlreadyThere);
     }
     if !table::is_there(mem, user) {
-        return 4;
+        return Err(Refusal::NotThere);
     }
     if !is_of_kind(mem, user, USER) {
-        return 5;
+        return Err(Refusal::WrongKind);
     }
-    0
+    Ok(())
 }
 
 // End process.
-pub fn end_process(mem: &[u32], bytes: usize, id: u32) -> u32
-    ensures { result ≡ refusal_of mem.now bytes (end_process id) }
+pub fn end_process(mem: &[u32], bytes: usize, id: u32) -> Result<(), Refusal>
+    ensures { refusal_in result ≡ refusal_of mem.now bytes (end_process id) }
 {
     if !table::holds(mem) {
-        return 1;
+        return Err(Refusal::NoTable);
     }
     if is_out_of_range(bytes, !table::is_process_id(id)) {
-        return 2;
+        return Err(Refusal::OutOfRange);
     }
     if !is_process(mem, id) {
-        return 4;
+        return Err(Refusal::NotThere);
     }
     if named::is_process_in_use(mem, id) {
-        return 9;
+        return Err(Refusal::InUse);
     }
-    0
+    Ok(())
 }

@@ -4,10 +4,13 @@
 ghost use Rattle.std.specs.Prelude.{◌≡◌, ◌&&◌, ◌≤◌, ◌<◌};
 ghost use Rattle.model.specs.Policy.{is_process_id};
 ghost use Rattle.model.specs.Request.{is_operation, bad_arguments, absent_arguments, arguments_of, kinds_of, absent, mismatched};
+ghost use Rattle.answer.specs.Answers.{refusal_in};
 ghost use Rattle.table.specs.View.{policy_of};
 ghost use Rattle.table.specs.Facts.{Table};
 ghost use Rattle.request.specs.Sets.{kind_sets, capabilities, is_bad, is_absent, is_wrong};
 ghost use Rattle.request.specs.Asks.{request_of, refusal_of};
+
+use answer::Refusal;
 
 // A request: the process, the operation, and three arguments always; those that the operation does not use are 0.
 #[derive(Clone, Copy)]
@@ -18,9 +21,6 @@ pub struct Request {
     pub second: u32,
     pub third: u32,
 }
-
-// The number of the refusal for a number that is out of range.
-const OUT_OF_RANGE: u32 = 2;
 
 // Kinds as sets: bit k is set for kind k.
 const USER_ATTRIBUTE: u32 = 4;
@@ -208,23 +208,23 @@ fn names_absent(mem: &[u32], kinds: [u32; 3], q: Request) -> bool
     are_absent(mem, kinds, q)
 }
 
-// The number of the request's refusal, 0 where it is not refused: 2, then 4, then 5, each over all that the request names.
-pub fn refusal(mem: &[u32], q: Request) -> u32
+// The request's refusal, where it is refused: 2, then 4, then 5, each over all that the request names.
+pub fn refusal(mem: &[u32], q: Request) -> Result<(), Refusal>
     requires { Table mem.now }
-    ensures { result ≡ refusal_of mem.now q }
+    ensures { refusal_in result ≡ refusal_of mem.now q }
 {
     if !is_in_range(q) {
-        return OUT_OF_RANGE;
+        return Err(Refusal::OutOfRange);
     }
     let kinds = kinds_of(q.operation);
     if are_bad(kinds, q) {
-        return OUT_OF_RANGE;
+        return Err(Refusal::OutOfRange);
     }
     if names_absent(mem, kinds, q) {
-        return 4;
+        return Err(Refusal::NotThere);
     }
     if are_wrong(mem, kinds, q) {
-        return 5;
+        return Err(Refusal::WrongKind);
     }
-    0
+    Ok(())
 }

@@ -11,9 +11,11 @@ use Rattle.model.specs.Explain.{Explained, rows, explanation}
 use Rattle.model.specs.Explain as explain
 use Rattle.model.specs.Calls.{Memory, kept, over}
 use Rattle.model.specs.Calls as calls
+use Rattle.std.specs.Prelude.{Result, Err}
+use Rattle.answer.specs.declared.Refusal.{Refusal}
 use Rattle.explain.specs.Answers.{told, numbers, numbers_of}
 use Rattle.explain.specs.declared.Explanation.{Explanation}
-use Rattle.rows.specs.Rows.{from_numbers, row_of, leaving, count_of, Tells}
+use Rattle.rows.specs.Rows.{from_numbers, row_of, leaving, count_in, Tells}
 use Rattle.rows.specs.declared.Row.{Row}
 
 -- a row's numbers are the row again
@@ -40,8 +42,8 @@ stored (refused n) rs ys ns e = rw e
 stored (accepted a) rs ys ns e = map_over row_of (map from_numbers ns) ys ∙ ap (λ l. over (map row_of (map from_numbers l)) (map row_of ys)) e ∙ ap (λ l. over l (map row_of ys)) (numbered rs)
 
 -- the explanation, whole
-pub answered : (m : Memory) (q : Asks) (ys zs : List Row) (before ns : List (List ℕ)) (r : Explanation) (n : ℕ)
-    → Tells m q (length ys) r before ns → n ≡ count_of r → zs ≡ over (map from_numbers (take n ns)) ys → leaving r zs ≡ calls.explain m q (map row_of ys)
+pub answered : (m : Memory) (q : Asks) (ys zs : List Row) (before ns : List (List ℕ)) (r : Result Explanation Refusal) (n : ℕ)
+    → Tells m q (length ys) r before ns → n ≡ count_in r → zs ≡ over (map from_numbers (take n ns)) ys → leaving r zs ≡ calls.explain m q (map row_of ys)
 unfolding calls.explain numbers
 answered m q ys zs before ns r n t c e =
     let front : take n ns ≡ kept (told r) (map numbers_of (rows (contained m.policy) m.policy q)) [] = ap (λ k. take k ns) c ∙ t.rows in
@@ -50,3 +52,8 @@ answered m q ys zs before ns r n t c e =
     let answers : told r ≡ explanation (contained m.policy) m.holds_table (length (map row_of ys)) m.policy q =
     t.answers ∙ ap (λ k. explanation (contained m.policy) m.holds_table k m.policy q) (sym (length-map ys row_of)) in
     λ i. record { answers = answers i; leaves = (left ∙ ap (λ a. kept a (over (rows (contained m.policy) m.policy q) (map row_of ys)) (map row_of ys)) answers) i }
+
+-- a refused one leaves the rows as they were
+pub answered_refused : (m : Memory) (q : Asks) (ys : List Row) (before ns : List (List ℕ)) (x : Refusal)
+    → Tells m q (length ys) (Err x) before ns → leaving (Err x) ys ≡ calls.explain m q (map row_of ys)
+answered_refused m q ys before ns x t = answered m q ys ys before ns (Err x) 0 t refl refl

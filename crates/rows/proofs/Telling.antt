@@ -16,19 +16,15 @@ use Rattle.model.specs.Request.{Request as Asks, verdict, request_lines}
 use Rattle.model.specs.Explain.{Explained, rows, explanation}
 use Rattle.model.specs.Calls.{Memory, kept, over}
 use Rattle.table.specs.View.{memory, policy_of}
-use Rattle.explain.specs.Answers.{told, numbers, numbers_of, left, explaining}
+use Rattle.std.specs.Prelude.{Result, Ok, Err}
+use Rattle.answer.specs.declared.Refusal.{Refusal}
+use Rattle.answer.specs.declared.Refusal.TheVariants.{NoRoom}
+use Rattle.answer.specs.Answers as answers
+use Rattle.explain.specs.Answers.{explained_by, told, numbers, numbers_of, left, explaining}
 use Rattle.explain.specs.declared.Explanation.{Explanation}
-use Rattle.explain.specs.declared.Explanation.TheVariants.{Grant, Deny, Refused}
+use Rattle.explain.specs.declared.Explanation.TheVariants.{Grant, Deny}
 use Rattle.rows.specs.Rows.{count_of, Tells}
 use Rattle.rows.proofs.Few.{few_rows, few_elements}
-
--- more rows than are lent
-pub too_few : (room n : ℕ) (a : Explanation) → n ≡ count_of a → room < n → Refused 10 ≡ cond (ltb room (count_of a)) (Refused 10) a
-too_few room n a e h = rw (sym e, lt-ltb room n h)
-
--- rows enough
-pub enough : (room n : ℕ) (a : Explanation) → n ≡ count_of a → n ≤ room → a ≡ cond (ltb room (count_of a)) (Refused 10) a
-enough room n a e h = rw (sym e, le-ltb room n h)
 
 -- 10 where it is asked, unless refused already
 abbrev cut : Bool → Answer Explained → Answer Explained
@@ -86,11 +82,11 @@ module _ (m : Memory) (q : Asks) (room : ℕ) where
 
   module _ (before after : List (List ℕ)) (big : N ≤ length before) (all : after ≡ (explaining m q before).rows) where
     -- a refusal
-    refusing : (n : ℕ) → refused n ≡ explanation W m.holds_table (length before) m.policy q → Tells m q room (Refused n) before after
-    unfolding told kept
-    refusing n h = record { answers = ap (cut (ltb room N)) h ∙ sym (explained_at (length before) big); all = all; rows = refl; few = omega arith; many = omega arith }
+    refusing : (x : Refusal) → refused (answers.number_of x) ≡ explanation W m.holds_table (length before) m.policy q → Tells m q room (Err x) before after
+    unfolding answers.told kept
+    refusing x h = record { answers = ap (cut (ltb room N)) h ∙ sym (explained_at (length before) big); all = all; rows = refl; few = omega arith; many = omega arith }
 
-    module _ (a : Explanation) (x : Explained) (t : told a ≡ accepted x) (c : count_of a ≡ x.count) (h : accepted x ≡ explanation W m.holds_table (length before) m.policy q)
+    module _ (a : Explanation) (x : Explained) (t : told (Ok a) ≡ accepted x) (c : count_of a ≡ x.count) (h : accepted x ≡ explanation W m.holds_table (length before) m.policy q)
         (k : after ≡ over (numbers m.policy q) before) where
       -- the count is that of the rows
       count_is : count_of a ≡ N
@@ -102,8 +98,8 @@ module _ (m : Memory) (q : Asks) (room : ℕ) where
       numbers_are = length-map (rows W m.policy q) numbers_of ∙ sym count_is
 
       -- what is not refused, 10 apart
-      granting : (b : Bool) → ltb room (count_of a) ≡ b → Tells m q room (cond b (Refused 10) a) before after
-      unfolding told kept
+      granting : (b : Bool) → ltb room (count_of a) ≡ b → Tells m q room (cond b (Err NoRoom) (Ok a)) before after
+      unfolding answers.told kept
       granting true e = record {
         answers = ap (λ b. cond b (refused 10) (accepted x)) (sym e ∙ ap (ltb room) count_is) ∙ ap (cut (ltb room N)) h ∙ sym (explained_at (length before) big);
         all = all;
@@ -114,12 +110,12 @@ module _ (m : Memory) (q : Asks) (room : ℕ) where
       granting false e = record {
         answers = t ∙ ap (λ b. cond b (refused 10) (accepted x)) (sym e ∙ ap (ltb room) count_is) ∙ ap (cut (ltb room N)) h ∙ sym (explained_at (length before) big);
         all = all;
-        rows = rw (t, k) (take_at (numbers m.policy q) (drop (length (numbers m.policy q)) before) (count_of a) numbers_are);
+        rows = rw k (take_at (numbers m.policy q) (drop (length (numbers m.policy q)) before) (count_of a) numbers_are);
         few = ltb-false room (count_of a) e;
         many = rw k (let both = length-append (numbers m.policy q) (drop (length (numbers m.policy q)) before) in let same = numbers_are in omega arith);
       }
 
-module _ (m : Memory) (q : Asks) (a : Explanation) (before after : List (List ℕ)) (e : left a after ≡ explaining m q before) where
+module _ (m : Memory) (q : Asks) (a : Result Explanation Refusal) (before after : List (List ℕ)) (e : left a after ≡ explaining m q before) where
   -- the answer with the first rows
   answers_of : told a ≡ explanation (contained m.policy) m.holds_table (length before) m.policy q
   unfolding explaining
@@ -131,15 +127,30 @@ module _ (m : Memory) (q : Asks) (a : Explanation) (before after : List (List �
   rows_of t = ap (λ l. l.rows) e ∙ ap (λ o. kept o (over (numbers m.policy q) before) before) (sym answers_of ∙ t)
 
 -- what is told where so many rows are lent
-pub tells : (mem : List ℕ) (q : Asks) (room : ℕ) (a r : Explanation) (before after : List (List ℕ)) → 1533 ≤ length before → left a after ≡ explaining (memory mem) q before
-    → r ≡ cond (ltb room (count_of a)) (Refused 10) a → Tells (memory mem) q room r before after
-unfolding told
-tells mem q room a r before after h e f = rw f (go a e)
-  where
-    big : length (rows (contained (policy_of mem)) (policy_of mem) q) ≤ length before
-    big = let few = few_rows (contained (policy_of mem)) (policy_of mem) (few_elements mem) q in omega arith
+module _ (mem : List ℕ) (q : Asks) (room : ℕ) (before after : List (List ℕ)) (h : 1533 ≤ length before) where
+  big : length (rows (contained (policy_of mem)) (policy_of mem) q) ≤ length before
+  big = let few = few_rows (contained (policy_of mem)) (policy_of mem) (few_elements mem) q in omega arith
 
-    go : (a : Explanation) → left a after ≡ explaining (memory mem) q before → Tells (memory mem) q room (cond (ltb room (count_of a)) (Refused 10) a) before after
-    go (Grant k n) e = granting (memory mem) q room before after big (ap (λ l. l.rows) e) (Grant k n) _ refl refl (answers_of (memory mem) q (Grant k n) before after e) (rows_of (memory mem) q (Grant k n) before after e refl) (ltb room n) refl
-    go (Deny n) e = granting (memory mem) q room before after big (ap (λ l. l.rows) e) (Deny n) _ refl refl (answers_of (memory mem) q (Deny n) before after e) (rows_of (memory mem) q (Deny n) before after e refl) (ltb room n) refl
-    go (Refused n) e = rw (le-ltb room 0 (omega arith)) (refusing (memory mem) q room before after big (ap (λ l. l.rows) e) n (answers_of (memory mem) q (Refused n) before after e))
+  -- what is refused whatever rows are lent
+  pub tells_refused : (x : Refusal) → left (Err x) after ≡ explaining (memory mem) q before → Tells (memory mem) q room (Err x) before after
+  unfolding answers.told
+  tells_refused x e = refusing (memory mem) q room before after big (ap (λ l. l.rows) e) x (answers_of (memory mem) q (Err x) before after e)
+
+  module _ (a : Explanation) (e : left (Ok a) after ≡ explaining (memory mem) q before) where
+    told_so : (b : Bool) → ltb room (count_of a) ≡ b → Tells (memory mem) q room (cond b (Err NoRoom) (Ok a)) before after
+    unfolding answers.told explained_by
+    told_so = by a e
+      where
+        by : (a : Explanation) → left (Ok a) after ≡ explaining (memory mem) q before → (b : Bool) → ltb room (count_of a) ≡ b
+            → Tells (memory mem) q room (cond b (Err NoRoom) (Ok a)) before after
+        by (Grant k n) e = granting (memory mem) q room before after big (ap (λ l. l.rows) e) (Grant k n) _ refl refl (answers_of (memory mem) q (Ok (Grant k n)) before after e) (rows_of (memory mem) q (Ok (Grant k n)) before after e refl)
+        by (Deny n) e = granting (memory mem) q room before after big (ap (λ l. l.rows) e) (Deny n) _ refl refl (answers_of (memory mem) q (Ok (Deny n)) before after e) (rows_of (memory mem) q (Ok (Deny n)) before after e refl)
+
+    module _ {n : ℕ} (c : n ≡ count_of a) where
+      -- more rows than are lent
+      pub tells_too_few : room < n → Tells (memory mem) q room (Err NoRoom) before after
+      tells_too_few l = told_so true (rw (sym c) (lt-ltb room n l))
+
+      -- rows enough
+      pub tells_enough : n ≤ room → Tells (memory mem) q room (Ok a) before after
+      tells_enough l = told_so false (rw (sym c) (le-ltb room n l))

@@ -10,6 +10,8 @@ use Rattle.model.specs.Explain.{Explained, rows, explanation}
 use Rattle.model.specs.Explain as explain
 use Rattle.model.specs.Calls.{Memory, Explaining, kept, over}
 use Rattle.model.specs.Calls as calls
+use Rattle.std.specs.Prelude.{Result}
+use Rattle.answer.specs.declared.Refusal.{Refusal}
 use Rattle.explain.specs.Answers.{told, left, numbers_of, numbers, explaining}
 use Rattle.explain.specs.declared.Explanation.{Explanation}
 use Rattle.rows.specs.Rows.{row_of, leaving, numbers_in}
@@ -23,7 +25,7 @@ numbers_kept (refused n) new old = refl
 numbers_kept (accepted a) new old = map_over numbers_of new old
 
 -- the explanation in structs answers and leaves, row by row, what the explanation in numbers does; so each theorem of `explain` is one of it
-pub as_numbers : (m : Memory) (q : Asks) (room out : List Row) (r : Explanation) → leaving r out ≡ calls.explain m q (map row_of room)
+pub as_numbers : (m : Memory) (q : Asks) (room out : List Row) (r : Result Explanation Refusal) → leaving r out ≡ calls.explain m q (map row_of room)
     → left r (numbers_in out) ≡ explaining m q (numbers_in room)
 unfolding calls.explain explaining numbers
 as_numbers m q room out r e =

@@ -1,12 +1,13 @@
 // The explanation, with rows as a lent slice of small structs.
 #![tactic(auto)]
 
-ghost use Rattle.std.specs.Prelude.{◌≡◌, cond, [], map, ◌≤◌, ◌<◌, ltb, length, get_or, take};
+ghost use Rattle.std.specs.Prelude.{◌≡◌, [], map, ◌≤◌, ◌<◌, length, get_or, take};
 ghost use Rattle.model.specs.Calls.{over, explain as explaining};
 ghost use Rattle.table.specs.View.{memory};
 ghost use Rattle.request.specs.Asks.{request_of};
 ghost use Rattle.rows.specs.Rows.{from_numbers, row_of, leaving, count_of, Tells};
 
+use answer::Refusal;
 use explain::Explanation;
 use request::Request;
 
@@ -46,50 +47,45 @@ fn copy_rows(rows: &mut [Row], numbers: &[[u32; 8]], n: usize)
     requires { (n ≤ length rows.old) × (n ≤ length numbers.now) }
     ensures { rows.new ≡ over (map from_numbers (take n numbers.now)) rows.old }
 {
-    let mut i = 0;
-    while i < n {
+    for i in 0..n {
         rows[i] = row_of(numbers, i);
-        i += 1;
     }
 }
 
-// How many rows the answer has.
-fn count(answer: Explanation) -> usize
-    ensures { result ≡ count_of answer }
+// How many rows an explanation has.
+fn count(explanation: Explanation) -> usize
+    ensures { result ≡ count_of explanation }
 {
-    match answer {
+    match explanation {
         Explanation::Grant(_, n) => n as usize,
         Explanation::Deny(n) => n as usize,
-        Explanation::Refused(_) => 0,
     }
 }
 
-// The answer where `room` rows are lent: 10 where they are too few.
-fn answer_for(answer: Explanation, room: usize) -> Explanation
-    ensures { result ≡ cond (ltb room (count_of answer)) (Explanation.Refused 10) answer }
-{
-    if room < count(answer) {
-        return Explanation::Refused(10);
-    }
-    answer
-}
-
-// The answer where `room` rows are lent, and the numbers of its rows.
-fn tell(mem: &[u32], q: Request, room: usize, numbers: &mut [[u32; 8]]) -> Explanation
+// The answer where `room` rows are lent, 10 where they are too few, and the numbers of its rows.
+fn tell(
+    mem: &[u32],
+    q: Request,
+    room: usize,
+    numbers: &mut [[u32; 8]],
+) -> Result<Explanation, Refusal>
     requires { 1533 ≤ length numbers.old }
     ensures { Tells (memory mem.now) (request_of q) room result numbers.old numbers.new }
 {
-    let answer = explain::explain_numbers(mem, q, numbers);
-    answer_for(answer, room)
+    let explanation = explain::explain_numbers(mem, q, numbers)?;
+    if room < count(explanation) {
+        return Err(Refusal::NoRoom);
+    }
+    Ok(explanation)
 }
 
 // The explanation: answers as the plain decision does and fills the lent rows. It has at most 1,533 rows: three rights over 511 classes each.
-pub fn explain(mem: &[u32], q: Request, rows: &mut [Row]) -> Explanation
+pub fn explain(mem: &[u32], q: Request, rows: &mut [Row]) -> Result<Explanation, Refusal>
     ensures { leaving result rows.new ≡ explaining (memory mem.now) (request_of q) (map row_of rows.old) }
 {
     let mut numbers = [[0u32; 8]; 1536];
-    let answer = tell(mem, q, rows.len(), &mut numbers);
-    let n = count(answer);
+    let explanation = tell(mem, q, rows.len(), &mut numbers)?;
+    let n = count(explanation);
     copy_rows(rows, &numbers, n);
-    answer
+    Ok(explanation)
 }

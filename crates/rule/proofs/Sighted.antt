@@ -8,7 +8,7 @@ use Prim.Native.Nat.{ℕ, ◌/◌, ◌%◌, ◌^◌, ◌≤◌, ◌<◌}
 use native.Mathlib.Omega.{arith}
 use native.Mathlib.Decide.{dec_lt}
 use borrow.Author.Tests.{lt-ltb, le-ltb}
-use lib.Dec.{eqb}
+use lib.Dec.{eqb, ltb}
 use Rattle.model.specs.Policy.{has_right}
 use Rattle.model.specs.Index.{bit_at}
 use Rattle.table.specs.View.{policy_of}
@@ -23,14 +23,14 @@ right_read rights r = refl
 
 module _ (rows : List ℕ) (x y : ℕ) where
   -- no row has a mark 512
-  pub mark_far : 511 < y → false ≡ mark_at rows x y
+  pub mark_far : 512 ≤ y → ltb y 512 ≡ mark_at rows x y
   unfolding mark_at
   mark_far h = rw (le-ltb y 512 h)
 
   -- the mark is the bit
-  pub mark_read : y ≤ 511 → {b : Bool} → b ≡ bit_at rows x y → b ≡ mark_at rows x y
+  pub mark_read : y < 512 → {b : Bool} → b ≡ bit_at rows x y → b ≡ mark_at rows x y
   unfolding mark_at
-  mark_read h e = let l : y < 512 = omega arith in rw (lt-ltb y 512 l) e
+  mark_read h e = rw (lt-ltb y 512 h) e
 
   -- a row of an index
   pub sees_bit : {indexed : Bool} → indexed ≡ true → {b : Bool} → b ≡ bit_at rows x y → b ≡ seen rows indexed x y

@@ -25,12 +25,10 @@ fn are_elements_right(s: &[u8], at: usize, n: usize) -> bool
     ensures { result ≡ elements_right (read_group read_element n (drop at (bits_of s.now))).value }
 {
     let mut last = 0;
-    let mut p = at;
-    let mut i = 0;
-    while i < n {
-        let id = Cursor { at: p }.take(s, 9);
-        let c = id.next;
-        let kind = c.take(s, 3);
+    let mut next = Cursor { at };
+    for _ in 0..n {
+        let id = next.take(s, 9);
+        let kind = id.next.take(s, 3);
         if id.value <= last {
             return false;
         }
@@ -38,9 +36,7 @@ fn are_elements_right(s: &[u8], at: usize, n: usize) -> bool
             return false;
         }
         last = id.value;
-        let d = kind.next;
-        p = d.at;
-        i += 1;
+        next = kind.next;
     }
     true
 }
@@ -52,12 +48,10 @@ fn are_processes_right(s: &[u8], at: usize, n: usize) -> bool
     ensures { result ≡ processes_right (read_group read_process n (drop at (bits_of s.now))).value }
 {
     let mut last = 0;
-    let mut p = at;
-    let mut i = 0;
-    while i < n {
-        let id = Cursor { at: p }.take(s, 8);
-        let c = id.next;
-        let user = c.take(s, 9);
+    let mut next = Cursor { at };
+    for _ in 0..n {
+        let id = next.take(s, 8);
+        let user = id.next.take(s, 9);
         if id.value <= last {
             return false;
         }
@@ -65,9 +59,7 @@ fn are_processes_right(s: &[u8], at: usize, n: usize) -> bool
             return false;
         }
         last = id.value;
-        let d = user.next;
-        p = d.at;
-        i += 1;
+        next = user.next;
     }
     true
 }
@@ -79,20 +71,16 @@ fn are_lists_short(s: &[u8], at: usize, n: usize) -> bool
     ensures { result ≡ all_short (read_group read_prohibition n (drop at (bits_of s.now))).value }
 {
     let mut p = at;
-    let mut i = 0;
-    while i < n {
+    for _ in 0..n {
         let inclusions = Cursor { at: p + 44 }.take(s, 3);
-        let c = inclusions.next;
-        let exclusions = c.take(s, 3);
+        let exclusions = inclusions.next.take(s, 3);
         if MOST_LISTED < inclusions.value {
             return false;
         }
         if MOST_LISTED < exclusions.value {
             return false;
         }
-        let d = exclusions.next;
-        p = d.at + 9 * (inclusions.value as usize + exclusions.value as usize);
-        i += 1;
+        p = exclusions.next.at + 9 * (inclusions.value as usize + exclusions.value as usize);
     }
     true
 }

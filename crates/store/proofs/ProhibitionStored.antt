@@ -11,7 +11,8 @@ use lib.Seq.{drop-drop, take-append_seam}
 use Rattle.model.specs.Lists.{any_of, same}
 use Rattle.model.specs.Policy.{Prohibition, prohibition_fields, has_prohibition}
 use Rattle.model.specs.Sound.{listed}
-use Rattle.table.specs.declared.Outcome.TheVariants.{Done, Refused}
+use Rattle.std.specs.Prelude.{Ok, Err}
+use Rattle.answer.specs.declared.Refusal.TheVariants.{NoRoom}
 use Rattle.table.specs.Layout.{word, prohibition_count}
 use Rattle.table.specs.View.{policy_of}
 use Rattle.table.specs.Facts.{Table}
@@ -62,18 +63,18 @@ module _ {mem : List ℕ} (t : Table mem) {b : Prohibition} (s : Storable b) {re
   room_for_record h = rw eleven (room_for_one (prohibitions_fit t) h)
 
   -- the record put in is the prohibition put in
-  pub prohibition_added : {m : List ℕ} → prohibition_count mem < 200 → m ≡ with_record 5776 3 rec mem → left Done m ≡ added_prohibition b mem
+  pub prohibition_added : {m : List ℕ} → prohibition_count mem < 200 → m ≡ with_record 5776 3 rec mem → left (Ok tt) m ≡ added_prohibition b mem
   unfolding with_prohibition
-  prohibition_added h d = ap (left Done) (d ∙ ap (λ (r : List ℕ). with_record 5776 3 r mem) e) ∙ added_done (leb 200 (word mem 3)) (with_prohibition b mem) mem (lt-leb 200 (word mem 3) h)
+  prohibition_added h d = ap (left (Ok tt)) (d ∙ ap (λ (r : List ℕ). with_record 5776 3 r mem) e) ∙ added_done (leb 200 (word mem 3)) (with_prohibition b mem) mem (lt-leb 200 (word mem 3) h)
 
   -- the first words of the record that the code takes
   abbrev part : List ℕ
-  part = take (3 + length b.inclusion + length b.exclusion - 0) rec
+  part = take (3 + length b.inclusion + length b.exclusion) rec
 
   -- are those that count
   part_front : part ≡ prohibition_front b
   part_front =
-      let n : 3 + length b.inclusion + length b.exclusion - 0 ≡ length (prohibition_front b) = omega (arith, front_counted b) in
+      let n : 3 + length b.inclusion + length b.exclusion ≡ length (prohibition_front b) = omega (arith, front_counted b) in
       ap₂ (λ (k : ℕ) (r : List ℕ). take k r) n (e ∙ record_front b) ∙ take-append_seam (prohibition_front b) (replicate (8 - length (listed b)) 0)
 
   -- a record begins with them exactly if the prohibition is there
@@ -92,5 +93,5 @@ module _ {mem : List ℕ} (t : Table mem) {b : Prohibition} (s : Storable b) {re
   prohibition_taken d = d ∙ ap (λ (r : List ℕ). without_record 5776 11 3 r mem) part_front
 
 -- where 200 are there nothing is put in
-pub prohibition_refused : (mem : List ℕ) (b : Prohibition) → 200 ≤ prohibition_count mem → left (Refused 10) mem ≡ added_prohibition b mem
+pub prohibition_refused : (mem : List ℕ) (b : Prohibition) → 200 ≤ prohibition_count mem → left (Err NoRoom) mem ≡ added_prohibition b mem
 prohibition_refused mem b h = added_full (leb 200 (word mem 3)) (with_prohibition b mem) mem (le-leb 200 (word mem 3) h)

@@ -13,10 +13,12 @@ use Rattle.model.specs.Lists.{those}
 use Rattle.model.specs.Policy.{Association}
 use Rattle.model.specs.Refusal.{answer}
 use Rattle.model.specs.Calls.{kept}
-use Rattle.table.specs.declared.Outcome.TheVariants.{Done, Refused}
+use Rattle.std.specs.Prelude.{Ok, Err}
+use Rattle.answer.specs.declared.Refusal.TheVariants.{NoRoom}
 use Rattle.table.specs.Layout.{word}
 use Rattle.table.specs.Facts.{FirstOf}
-use Rattle.table.specs.Answers.{told, left}
+use Rattle.answer.specs.Answers.{told}
+use Rattle.table.specs.Answers.{left}
 use Rattle.group.specs.Group.{group, regroup, removed_at, with_record, without_record}
 use Rattle.group.proofs.Kept.{length_group}
 use Rattle.store.specs.Words.{with_kind, with_user, assignment_record, with_assignment, without_assignment, without_assignments_of, association_record, with_association, without_association, added, added_assignment, added_association}
@@ -34,33 +36,33 @@ user_set mem i u = refl
 
 -- A record more: refused where the group is full, else put in.
 module _ (full : Bool) (more words : List ℕ) where
-  pub added_full : full ≡ true → left (Refused 10) words ≡ added full more words
+  pub added_full : full ≡ true → left (Err NoRoom) words ≡ added full more words
   unfolding added told answer kept
   added_full e = rw e refl
 
-  pub added_done : full ≡ false → left Done more ≡ added full more words
+  pub added_done : full ≡ false → left (Ok tt) more ≡ added full more words
   unfolding added told answer kept
   added_done e = rw e refl
 
 module _ (mem : List ℕ) (x y : ℕ) where
-  pub assignment_full : 2000 ≤ word mem 1 → left (Refused 10) mem ≡ added_assignment x y mem
+  pub assignment_full : 2000 ≤ word mem 1 → left (Err NoRoom) mem ≡ added_assignment x y mem
   assignment_full h = added_full (leb 2000 (word mem 1)) (with_assignment x y mem) mem (le-leb 2000 (word mem 1) h)
 
-  pub assignment_added : word mem 1 < 2000 → {mem' : List ℕ} → mem' ≡ with_record 776 1 (assignment_record x y) mem → left Done mem' ≡ added_assignment x y mem
+  pub assignment_added : word mem 1 < 2000 → {mem' : List ℕ} → mem' ≡ with_record 776 1 (assignment_record x y) mem → left (Ok tt) mem' ≡ added_assignment x y mem
   unfolding with_assignment
-  assignment_added h e = ap (left Done) e ∙ added_done (leb 2000 (word mem 1)) (with_assignment x y mem) mem (lt-leb 2000 (word mem 1) h)
+  assignment_added h e = ap (left (Ok tt)) e ∙ added_done (leb 2000 (word mem 1)) (with_assignment x y mem) mem (lt-leb 2000 (word mem 1) h)
 
   pub assignment_taken : {mem' : List ℕ} → mem' ≡ without_record 776 1 1 (assignment_record x y) mem → mem' ≡ without_assignment x y mem
   unfolding without_assignment
   assignment_taken e = e
 
 module _ (mem : List ℕ) (a : Association) where
-  pub association_full : 1000 ≤ word mem 2 → left (Refused 10) mem ≡ added_association a mem
+  pub association_full : 1000 ≤ word mem 2 → left (Err NoRoom) mem ≡ added_association a mem
   association_full h = added_full (leb 1000 (word mem 2)) (with_association a mem) mem (le-leb 1000 (word mem 2) h)
 
-  pub association_added : word mem 2 < 1000 → {mem' : List ℕ} → mem' ≡ with_record 2776 2 (association_record a) mem → left Done mem' ≡ added_association a mem
+  pub association_added : word mem 2 < 1000 → {mem' : List ℕ} → mem' ≡ with_record 2776 2 (association_record a) mem → left (Ok tt) mem' ≡ added_association a mem
   unfolding with_association
-  association_added h e = ap (left Done) e ∙ added_done (leb 1000 (word mem 2)) (with_association a mem) mem (lt-leb 1000 (word mem 2) h)
+  association_added h e = ap (left (Ok tt)) e ∙ added_done (leb 1000 (word mem 2)) (with_association a mem) mem (lt-leb 1000 (word mem 2) h)
 
   pub association_taken : {mem' : List ℕ} → mem' ≡ without_record 2776 2 2 (association_record a) mem → mem' ≡ without_association a mem
   unfolding without_association

@@ -9,9 +9,10 @@ ghost use Rattle.table.specs.Answers.{left};
 ghost use Rattle.store.specs.ProhibitionWords.{prohibition, Storable, prohibition_record, without_prohibition, added_prohibition};
 ghost use Rattle.store.specs.Words.{with_kind, with_user, added_assignment, without_assignment, without_assignments_of, added_association, without_association};
 
+use answer::Refusal;
 use table::{
     ASSIGNMENT_COUNTER, ASSIGNMENTS, ASSOCIATION_COUNTER, ASSOCIATIONS, KINDS, MOST_ASSIGNMENTS,
-    MOST_ASSOCIATIONS, MOST_PROHIBITIONS, Outcome, PROHIBITION_COUNTER, PROHIBITIONS, USERS,
+    MOST_ASSOCIATIONS, MOST_PROHIBITIONS, PROHIBITION_COUNTER, PROHIBITIONS, USERS,
 };
 
 // Sets the kind of element x; 0 takes the element out.
@@ -35,7 +36,7 @@ pub fn set_user(mem: &mut [u32], i: u32, user: u32)
 }
 
 // Puts an assignment that is not there in its place, unless there are 2,000.
-pub fn add_assignment(mem: &mut [u32], child: u32, container: u32) -> Outcome
+pub fn add_assignment(mem: &mut [u32], child: u32, container: u32) -> Result<(), Refusal>
     requires table { Table mem.old }
     requires child_bound { child < 512 }
     requires container_bound { container < 512 }
@@ -43,7 +44,7 @@ pub fn add_assignment(mem: &mut [u32], child: u32, container: u32) -> Outcome
     ensures { left result mem.new ≡ added_assignment child container mem.old }
 {
     if MOST_ASSIGNMENTS <= mem[ASSIGNMENT_COUNTER] {
-        return Outcome::Refused(10);
+        return Err(Refusal::NoRoom);
     }
     group::add(
         mem,
@@ -51,7 +52,7 @@ pub fn add_assignment(mem: &mut [u32], child: u32, container: u32) -> Outcome
         ASSIGNMENT_COUNTER,
         &[child * 512 + container],
     );
-    Outcome::Done
+    Ok(())
 }
 
 // Takes an assignment out, where it is there.
@@ -82,14 +83,19 @@ pub fn take_assignments_of(mem: &mut [u32], x: u32)
 }
 
 // Puts an association in its place, unless there are 1,000.
-pub fn add_association(mem: &mut [u32], attribute: u32, target: u32, rights: u32) -> Outcome
+pub fn add_association(
+    mem: &mut [u32],
+    attribute: u32,
+    target: u32,
+    rights: u32,
+) -> Result<(), Refusal>
     requires table { Table mem.old }
     requires attribute_bound { attribute < 512 }
     requires target_bound { target < 512 }
     ensures { left result mem.new ≡ added_association (record { attribute = attribute; target = target; rights = rights }) mem.old }
 {
     if MOST_ASSOCIATIONS <= mem[ASSOCIATION_COUNTER] {
-        return Outcome::Refused(10);
+        return Err(Refusal::NoRoom);
     }
     group::add(
         mem,
@@ -97,7 +103,7 @@ pub fn add_association(mem: &mut [u32], attribute: u32, target: u32, rights: u32
         ASSOCIATION_COUNTER,
         &[attribute * 512 + target, rights],
     );
-    Outcome::Done
+    Ok(())
 }
 
 // Takes an association out, where it is there.
@@ -141,12 +147,12 @@ fn prohibition_record(
 {
     let n = inclusion.len();
     let m = exclusion.len();
-    let mut rec = [0u32; 11];
+    let mut rec = [0; 11];
     rec[0] = sort * 1024 + subject * 2 + form;
     rec[1] = rights;
     rec[2] = (n * 8 + m) as u32;
-    group::store(&mut rec, 3, inclusion);
-    group::store(&mut rec, 3 + n, exclusion);
+    rec[3..3 + n].copy_from_slice(inclusion);
+    rec[3 + n..3 + n + m].copy_from_slice(exclusion);
     rec
 }
 
@@ -167,7 +173,7 @@ pub fn has_prohibition(
     let rec = prohibition_record(sort, subject, form, rights, inclusion, exclusion);
     let used = 3 + inclusion.len() + exclusion.len();
     let n = mem[PROHIBITION_COUNTER] as usize;
-    group::find(mem, PROHIBITIONS, 11, n, &rec[0..used]) < n
+    group::find(mem, PROHIBITIONS, 11, n, &rec[..used]) < n
 }
 
 // Puts the prohibition in its place, unless there are 200.
@@ -179,17 +185,17 @@ pub fn add_prohibition(
     rights: u32,
     inclusion: &[u32],
     exclusion: &[u32],
-) -> Outcome
+) -> Result<(), Refusal>
     requires table { Table mem.old }
     requires storable { Storable (prohibition sort subject form rights inclusion.now exclusion.now) }
     ensures { left result mem.new ≡ added_prohibition (prohibition sort subject form rights inclusion.now exclusion.now) mem.old }
 {
     if MOST_PROHIBITIONS <= mem[PROHIBITION_COUNTER] {
-        return Outcome::Refused(10);
+        return Err(Refusal::NoRoom);
     }
     let rec = prohibition_record(sort, subject, form, rights, inclusion, exclusion);
     group::add(mem, PROHIBITIONS, PROHIBITION_COUNTER, &rec);
-    Outcome::Done
+    Ok(())
 }
 
 // Takes out the first prohibition with just those fields, where one is.
@@ -208,5 +214,5 @@ pub fn take_prohibition(
 {
     let rec = prohibition_record(sort, subject, form, rights, inclusion, exclusion);
     let used = 3 + inclusion.len() + exclusion.len();
-    group::take_out(mem, PROHIBITIONS, 11, PROHIBITION_COUNTER, &rec[0..used]);
+    group::take_out(mem, PROHIBITIONS, 11, PROHIBITION_COUNTER, &rec[..used]);
 }

@@ -1,17 +1,22 @@
 -- The assignments: their order, and the words that say what is assigned to what.
 -- Assumes nothing.
 use mathlib.Core.Path.{◌≡◌, refl, sym, ap, subst, ◌∙◌}
-use mathlib.Core.Bool.{true, false, ◌&&◌}
+use mathlib.Core.Bool.{Bool, true, false, ◌&&◌}
 use mathlib.Core.List.{List}
 use Prim.Native.Nat.{ℕ, ◌+◌, ◌*◌, ◌/◌, ◌%◌, ◌≤◌, ◌<◌, ◌-◌}
 use native.Mathlib.Omega.{arith}
 use native.Mathlib.Decide.{dec_lt}
-use borrow.Author.Tests.{eq-eqb, eqb-true}
-use lib.Dec.{eqb}
+use borrow.Author.Tests.{eq-eqb, eqb-true, ltb-true, ltb-false}
+use lib.Dec.{eqb, ltb}
+use lib.ListN.{length, get_or}
+use Rattle.std.specs.List.{between, IsAnyAnswer}
+use Rattle.std.specs.List.Sorted.{IsPartitionedBy, IsPartitionPoint}
+use Rattle.std.proofs.lemmas.List.Edits.{length-between, get_or-between}
+use Rattle.std.proofs.lemmas.List.Sorted.{IsPartitionedBy-ltb, IsNonDecreasingBy-from_default}
 use Rattle.model.specs.Lists.{In, any_of}
 use Rattle.model.specs.Policy.{Assignment, is_assigned}
 use Rattle.model.specs.Contain.{Assigned}
-use Rattle.model.proofs.Truth.{and_left, and_right, and_join, fails_when, Found, any_in, any_found}
+use Rattle.model.proofs.Truth.{and_left, and_right, and_join, clash, fails_when, Found, any_in, any_found}
 use Rattle.table.specs.Layout.{word, assignments_from, assignment_count, assignment_word}
 use Rattle.table.specs.View.{assignment_at, assignments_of, policy_of}
 use Rattle.table.specs.Facts.{Table, FirstOf, AmongFirst}
@@ -24,18 +29,44 @@ rising_le {mem} t i j h l = elim (dec_lt i j) [
   | no b ↦ let e : i ≡ j = omega arith in omega (arith, ap (assignment_word mem) e)
 ]
 
--- Half of the assignments from lo on, by the last of them.
-module _ {mem : List ℕ} (t : Table mem) (lo half key : ℕ) (some : 1 ≤ half) (inside : lo + half ≤ assignment_count mem) where
-  last_of_half : word mem (assignments_from + lo + half - 1) ≡ assignment_word mem (lo + half - 1)
-  last_of_half = let e : assignments_from + lo + half - 1 ≡ assignments_from + (lo + half - 1) = omega arith in ap (word mem) e
+-- The words of the assignments from a on, below b.
+module _ {mem : List ℕ} (t : Table mem) (a b : ℕ) (inside : b ≤ assignment_count mem) where
+  abbrev part : List ℕ
+  part = between (assignments_from + a) (assignments_from + b) mem
 
-  -- it is below the key, and so are all up to it
-  pub half_below : word mem (assignments_from + lo + half - 1) < key → (i : ℕ) → i < lo + half → assignment_word mem i < key
-  half_below b i h = omega (arith, last_of_half, rising_le t i (lo + half - 1) (omega arith) (omega arith))
+  -- so many are they
+  part_long : length part ≡ b - a
+  part_long = length-between mem (assignments_from + a) (assignments_from + b) (omega (arith, t.size, t.few_assignments)) ∙ omega arith
 
-  -- it is not, and neither is any from it on
-  pub half_above : key ≤ word mem (assignments_from + lo + half - 1) → (i : ℕ) → lo + half - 1 ≤ i → i < assignment_count mem → key ≤ assignment_word mem i
-  half_above b i h l = omega (arith, last_of_half, rising_le t (lo + half - 1) i h l)
+  -- word k of them
+  part_word : (k : ℕ) → a + k < b → get_or part k 0 ≡ assignment_word mem (a + k)
+  part_word k h = get_or-between mem (assignments_from + a) (assignments_from + b) k 0 (omega arith) ∙ (let e : assignments_from + a + k ≡ assignments_from + (a + k) = omega arith in ap (word mem) e)
+
+-- Where the words below a key end, as a search by halving finds it.
+module _ {mem : List ℕ} (t : Table mem) (key : ℕ) where
+  abbrev all : List ℕ
+  all = part t 0 (assignment_count mem) (omega arith)
+
+  all_long : length all ≡ assignment_count mem
+  all_long = part_long t 0 (assignment_count mem) (omega arith) ∙ omega arith
+
+  all_word : (k : ℕ) → k < assignment_count mem → get_or all k 0 ≡ assignment_word mem k
+  all_word k h = part_word t 0 (assignment_count mem) (omega arith) k (omega arith) ∙ (let e : 0 + k ≡ k = omega arith in ap (assignment_word mem) e)
+
+  -- no word below the key stands behind one that is not
+  pub parted : IsPartitionedBy (λ w. ltb w key) (between assignments_from (assignments_from + assignment_count mem) mem)
+  parted =
+      IsPartitionedBy-ltb (λ w. w) all key (IsNonDecreasingBy-from_default (λ w. w) all 0 (λ i j h l.
+      omega (arith, all_long, all_word i (omega (arith, all_long)), all_word j (omega (arith, all_long)), rising_le t i j h (omega (arith, all_long)))))
+
+  -- the words before the place are below the key, those from it on are not
+  pub first_found : (x : ℕ) → key ≡ x * 512 → {r : ℕ} → r ≤ length all
+      → IsPartitionPoint (λ w. ltb w key ≡ true) (λ w. ltb w key ≡ false) (between assignments_from (assignments_from + assignment_count mem) mem) r → FirstOf mem x r
+  first_found x e {r} l p = record {
+    inside = omega (arith, all_long);
+    before = λ i h. omega (arith, all_long, all_word i (omega (arith, all_long)), ltb-true (get_or all i 0) key (p.0 i 0 (omega arith) h));
+    from = λ i h h'. omega (arith, all_word i h', ltb-false (get_or all i 0) key (p.1 i 0 h (omega (arith, all_long))));
+  }
 
 -- an assignment of the policy is one of the words
 pub assigned_word : (mem : List ℕ) {x y : ℕ} → Assigned (assignments_of mem) x y → AmongFirst mem (assignment_count mem) x y
@@ -54,43 +85,25 @@ word_assigned {mem} {x} {y} a =
     let d : assignment_word mem a.at % 512 ≡ y = omega (arith, a.is, a.small) in
     subst (λ (b : Assignment). In b (assignments_of mem)) (rw (c, d) refl) (in_tabulate (assignment_count mem) (assignment_at mem) a.at a.early)
 
--- none of the first i assignments assigns x to y
-pub record NotAmong (mem : List ℕ) (i x y : ℕ) : Type 0 where
-  pub inside : i ≤ assignment_count mem
-  pub none : AmongFirst mem i x y → ⊥
-
--- none before the assignments of x
-pub among_none : {mem : List ℕ} {x a : ℕ} (y : ℕ) → FirstOf mem x a → NotAmong mem a x y
-among_none y f = record { inside = f.inside; none = λ e. omega (arith, f.before e.at e.early, e.is) }
-
--- another container, and none still
-pub among_more : {mem : List ℕ} {i x y e : ℕ} → NotAmong mem i x y → FirstOf mem (x + 1) e → i < e → (assignment_word mem i ≡ x * 512 + y → ⊥) → NotAmong mem (i + 1) x y
-among_more {mem} {i} {x} {y} n f l d = record {
-  inside = omega (arith, f.inside);
-  none = λ a. elim (dec_lt a.at i) [
-    | yes b ↦ n.none (record { at = a.at; early = b; is = a.is; small = a.small })
-    | no b ↦ let s : a.at ≡ i = omega (arith, a.early) in d (ap (assignment_word mem) (sym s) ∙ a.is)
-  ];
-}
-
--- the container stands there
-pub assigned_here : (mem : List ℕ) (x y i : ℕ) {e : ℕ} → FirstOf mem (x + 1) e → i < e → y < 512 → assignment_word mem i ≡ x * 512 + y → true ≡ is_assigned (policy_of mem) x y
+-- whether one of the words of x is the one that assigns it to y
+pub assigned_between : {mem : List ℕ} → Table mem → (x y : ℕ) → y < 512 → {a e : ℕ} → FirstOf mem x a → FirstOf mem (x + 1) e → (r : Bool)
+    → IsAnyAnswer (λ w b. eqb w (x * 512 + y) ≡ b) (between (assignments_from + a) (assignments_from + e) mem) r → r ≡ is_assigned (policy_of mem) x y
 unfolding is_assigned policy_of
-assigned_here mem x y i f l s q =
-    sym (any_in (λ a. eqb x a.child && eqb y a.container) (word_assigned {mem = mem} {x = x} {y = y} (record { at = i; early = omega (arith, f.inside); is = q; small = s }))
+assigned_between {mem} t x y s {a} {e} f g true (k, h, w) =
+    let l : a + k < e = omega (arith, part_long t a e g.inside) in
+    let i : assignment_word mem (a + k) ≡ x * 512 + y = sym (part_word t a e g.inside k l) ∙ eqb-true _ _ (w 0) in
+    sym (any_in (λ b. eqb x b.child && eqb y b.container) (word_assigned {mem = mem} {x = x} {y = y} (record { at = a + k; early = omega (arith, g.inside); is = i; small = s }))
     (and_join (eqb x x) (eqb y y) (eq-eqb x x refl) (eq-eqb y y refl)))
-
--- it stands nowhere
-pub assigned_nowhere : (mem : List ℕ) (x y : ℕ) {i e : ℕ} → NotAmong mem i x y → FirstOf mem (x + 1) e → e ≤ i → false ≡ is_assigned (policy_of mem) x y
-unfolding is_assigned policy_of
-assigned_nowhere mem x y {i} {e} n f l = sym (fails_when (any_of (λ a. eqb x a.child && eqb y a.container) (assignments_of mem)) (λ t. nowhere (any_found (λ a. eqb x a.child && eqb y a.container) (assignments_of mem) t)))
+assigned_between {mem} t x y s {a} {e} f g false w =
+    sym (fails_when (any_of (λ b. eqb x b.child && eqb y b.container) (assignments_of mem)) (λ q. nowhere (any_found (λ b. eqb x b.child && eqb y b.container) (assignments_of mem) q)))
   where
-    nowhere : Found (λ (a : Assignment). eqb x a.child && eqb y a.container) (assignments_of mem) → ⊥
-    nowhere w =
-        let c : x ≡ w.it.child = eqb-true x w.it.child (and_left (eqb x w.it.child) (eqb y w.it.container) w.is) in
-        let d : y ≡ w.it.container = eqb-true y w.it.container (and_right (eqb x w.it.child) (eqb y w.it.container) w.is) in
-        let a = assigned_word mem {x = x} {y = y} (subst (λ (b : Assignment). In b (assignments_of mem)) (rw (c, d) refl) w.there) in
-        elim (dec_lt a.at i) [
-          | yes b ↦ n.none (record { at = a.at; early = b; is = a.is; small = a.small })
-          | no b ↦ omega (arith, a.is, a.small, f.from a.at (omega arith) a.early)
-        ]
+    nowhere : Found (λ (b : Assignment). eqb x b.child && eqb y b.container) (assignments_of mem) → ⊥
+    nowhere u =
+        let c : x ≡ u.it.child = eqb-true x u.it.child (and_left (eqb x u.it.child) (eqb y u.it.container) u.is) in
+        let d : y ≡ u.it.container = eqb-true y u.it.container (and_right (eqb x u.it.child) (eqb y u.it.container) u.is) in
+        let n = assigned_word mem {x = x} {y = y} (subst (λ (b : Assignment). In b (assignments_of mem)) (rw (c, d) refl) u.there) in
+        let above : a ≤ n.at = elim (dec_lt n.at a) [ yes b ↦ absurd (omega (arith, f.before n.at b, n.is)) | no b ↦ omega arith ] in
+        let below : n.at < e = elim (dec_lt n.at e) [ yes b ↦ b | no b ↦ absurd (omega (arith, g.from n.at (omega arith) n.early, n.is)) ] in
+        let k : a + (n.at - a) ≡ n.at = omega arith in
+        let i : get_or (part t a e g.inside) (n.at - a) 0 ≡ x * 512 + y = part_word t a e g.inside (n.at - a) (omega arith) ∙ ap (assignment_word mem) k ∙ n.is in
+        clash (eq-eqb _ _ i) (w (n.at - a) 0 (omega arith) (omega (arith, part_long t a e g.inside)))

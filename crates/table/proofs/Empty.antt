@@ -14,11 +14,13 @@ use Rattle.model.specs.Policy.{Element, Process, is_kind, is_element_id, empty_p
 use Rattle.model.specs.Refusal.{answer}
 use Rattle.model.specs.Calls.{kept}
 use Rattle.group.specs.Group.{laid, Clear}
-use Rattle.table.specs.declared.Outcome.TheVariants.{Done, Refused}
+use Rattle.std.specs.Prelude.{Ok, Err}
+use Rattle.answer.specs.declared.Refusal.TheVariants.{NoTable}
+use Rattle.answer.specs.Answers.{told}
 use Rattle.table.specs.Layout.{word_count, mark, word}
 use Rattle.table.specs.View.{empty_table, elements_of, processes_of, assignments_of, associations_of, prohibitions_of, policy_of}
 use Rattle.table.specs.Facts.{Table}
-use Rattle.table.specs.Answers.{told, left, new_table}
+use Rattle.table.specs.Answers.{left, new_table}
 use Rattle.table.proofs.Tabled.{tabulate_in}
 
 -- zeros laid over all words are all there is
@@ -47,7 +49,7 @@ module _ {words : List ℕ} (zeros : words ≡ replicate 8192 0) where
 -- New, return by return.
 module _ (words : List ℕ) where
   -- another length
-  pub new_refused : (length words ≡ 8192 → ⊥) → left (Refused 1) words ≡ new_table words
+  pub new_refused : (length words ≡ 8192 → ⊥) → left (Err NoTable) words ≡ new_table words
   unfolding told new_table answer kept
   new_refused h = rw (ne_eqb (length words) 8192 h) refl
 
@@ -56,7 +58,7 @@ module _ (words : List ℕ) where
   new_cleared e c = c ∙ all_cleared 8192 words e
 
   -- and marked
-  pub new_done : length words ≡ 8192 → {mem : List ℕ} → mem ≡ empty_table → left Done mem ≡ new_table words
+  pub new_done : length words ≡ 8192 → {mem : List ℕ} → mem ≡ empty_table → left (Ok tt) mem ≡ new_table words
   unfolding told new_table answer kept
   new_done e t = rw (eq-eqb (length words) 8192 e, t) refl
 

@@ -9,3 +9,4 @@ pub mod Counted
 pub mod Empty
 pub mod Outcomes
 pub mod Loops
+pub mod Chains

@@ -1,18 +1,17 @@
--- What the enums of the code answer, in 01's numbers.
+-- What a call that changes the working memory answers, and the words that it leaves.
 -- Assumes nothing.
-use Rattle.std.specs.Prelude.{List, ℕ, eqb, length}
-use Rattle.model.specs.Refusal.{Answer, refused, accepted, answer}
+use Rattle.std.specs.Prelude.{Result, List, ℕ, eqb, length}
+use Rattle.model.specs.Refusal.{Answer, answer}
 use Rattle.model.specs.Command.{new_lines}
 use Rattle.model.specs.Calls.{kept}
 use Rattle.table.specs.Layout.{word_count}
 use Rattle.table.specs.View.{empty_table}
-use Rattle.table.specs.declared.Outcome.{Outcome}
-use Rattle.table.specs.declared.Outcome.TheVariants.{Done, Refused}
+use Rattle.answer.specs.declared.Refusal.{Refusal}
+use Rattle.answer.specs.Answers as answers
 
--- `Done`: accepted, with what the call made; `Refused`: the refusal number
-unfoldable pub told : {A : Type 0} → Outcome → (made : A) → Answer A
-told Done made = accepted made
-told (Refused n) made = refused n
+-- `Ok`: accepted, with what the call made; `Err`: the refusal's number
+abbrev pub told : {A : Type 0} → Result (Unit {0}) Refusal → (made : A) → Answer A
+told r made = answers.told (λ _. made) r
 
 -- What a call that changes the working memory answers, and the words that it leaves.
 pub record Left : Type 0 where
@@ -20,7 +19,7 @@ pub record Left : Type 0 where
   pub words : List ℕ
 
 -- the same of what the code answers and leaves
-abbrev pub left : Outcome → (words : List ℕ) → Left
+abbrev pub left : Result (Unit {0}) Refusal → (words : List ℕ) → Left
 left r words = record { answers = told r words; words = words }
 
 -- New: "the working memory has another length than the published one" is its only refusal; else every word is the empty table's

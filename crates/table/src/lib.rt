@@ -8,6 +8,8 @@ ghost use Rattle.table.specs.View.{are_rising, are_small, has_short_lists, have_
 ghost use Rattle.table.specs.Answers.{left, new_table};
 ghost use Rattle.table.specs.Facts.{Table, FirstOf, AtMost};
 
+use answer::Refusal;
+
 // Where everything stands in the memory: 8,192 words.
 pub const WORDS: usize = 8192;
 
@@ -37,13 +39,6 @@ pub const ASSIGNMENTS: usize = 776;
 pub const ASSOCIATIONS: usize = 2776;
 
 pub const PROHIBITIONS: usize = 5776;
-
-// What a call that changes something answers.
-#[derive(Clone, Copy)]
-pub enum Outcome {
-    Done,
-    Refused(u32),
-}
 
 // The kind of element x, 0 where it is not there.
 pub fn kind_of(mem: &[u32], x: u32) -> u32
@@ -146,10 +141,8 @@ fn have_short_lists(mem: &[u32], n: usize) -> bool
     ensures { result ≡ have_short_lists mem.now n }
 {
     let mut short = true;
-    let mut i = 0;
-    while i < n {
-        short = short & has_short_lists(mem, PROHIBITIONS + 11 * i);
-        i += 1;
+    for i in 0..n {
+        short &= has_short_lists(mem, PROHIBITIONS + 11 * i);
     }
     short
 }
@@ -162,10 +155,8 @@ fn are_rising(mem: &[u32], n: usize) -> bool
     ensures { result ≡ are_rising mem.now n }
 {
     let mut up = true;
-    let mut i = 1;
-    while i < n {
-        up = up & (mem[ASSIGNMENTS + i - 1] < mem[ASSIGNMENTS + i]);
-        i += 1;
+    for i in 1..n {
+        up &= mem[ASSIGNMENTS + i - 1] < mem[ASSIGNMENTS + i];
     }
     up
 }
@@ -219,15 +210,15 @@ pub fn mark(mem: &mut [u32])
 }
 
 // Makes the memory the empty table.
-pub fn new(mem: &mut [u32]) -> Outcome
+pub fn new(mem: &mut [u32]) -> Result<(), Refusal>
     ensures { left result mem.new ≡ new_table mem.old }
 {
     if mem.len() != WORDS {
-        return Outcome::Refused(1);
+        return Err(Refusal::NoTable);
     }
     group::clear(mem, 0, WORDS);
     mark(mem);
-    Outcome::Done
+    Ok(())
 }
 
 // The first assignment whose child is x or above, by halving.
@@ -236,17 +227,8 @@ pub fn first_of(mem: &[u32], x: u32) -> usize
     requires x_bound { x ≤ 512 }
     ensures { FirstOf mem.now x result }
 {
-    let key = x * 512;
-    let mut lo = 0;
-    let mut n = mem[ASSIGNMENT_COUNTER] as usize;
-    while 0 < n {
-        let half = (n + 1) / 2;
-        n -= half;
-        if mem[ASSIGNMENTS + lo + half - 1] < key {
-            lo += half;
-        }
-    }
-    lo
+    let n = mem[ASSIGNMENT_COUNTER] as usize;
+    mem[ASSIGNMENTS..ASSIGNMENTS + n].partition_point(|word| *word < x * 512)
 }
 
 // Whether x is assigned to y: y stands among the containers of x.
@@ -256,16 +238,9 @@ pub fn is_assigned(mem: &[u32], x: u32, y: u32) -> bool
     requires y_bound { y < 512 }
     ensures { result ≡ is_assigned (policy_of mem.now) x y }
 {
-    let key = x * 512 + y;
-    let end = first_of(mem, x + 1);
-    let mut i = first_of(mem, x);
-    while i < end {
-        if mem[ASSIGNMENTS + i] == key {
-            return true;
-        }
-        i += 1;
-    }
-    false
+    let from = ASSIGNMENTS + first_of(mem, x);
+    let end = ASSIGNMENTS + first_of(mem, x + 1);
+    mem[from..end].contains(&(x * 512 + y))
 }
 
 // How many assignments there are.

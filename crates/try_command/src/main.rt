@@ -2,11 +2,10 @@
 // three numbers of four bytes, the high byte first. second/ has the script's meaning and makes the stored input and output.
 #![tactic(auto)]
 
-ghost use Rattle.std.specs.Prelude.{◌≡◌, ◌+◌, ◌<◌, ◌≤◌, length};
+ghost use Rattle.std.specs.Prelude.{◌≡◌, ◌+◌, ◌<◌, length};
 ghost use Rattle.io.specs.Counts.{IsPrefixLen};
 
-use index::Matching;
-use table::Outcome;
+use answer::Refusal;
 
 // How many words of the memory and bytes of the index are lent, the form of the prohibition that commands are given, how many inclusions it has,
 // and how many ids in both lists together.
@@ -40,19 +39,19 @@ fn say_number(n: u32, end: u8) {
 }
 
 // The refusal number of a call, 0 where it was done.
-fn number_of(r: Outcome) -> u32 {
+fn number_of(r: Result<(), Refusal>) -> u32 {
     match r {
-        Outcome::Done => 0,
-        Outcome::Refused(n) => n,
+        Ok(()) => 0,
+        Err(refusal) => u32::from(refusal),
     }
 }
 
 // The letter for "accepted", by whether the index is the table's: small if it is, large if it is another.
-fn first_letter(m: Matching) -> u32 {
-    match m {
-        Matching::Same => 97,
-        Matching::Other => 65,
-        Matching::Refused(n) => 63 - 15 * (n % 4),
+fn first_letter(is_its: Result<bool, Refusal>) -> u32 {
+    match is_its {
+        Ok(true) => 97,
+        Ok(false) => 65,
+        Err(refusal) => 63 - 15 * (u32::from(refusal) % 4),
     }
 }
 
@@ -63,23 +62,19 @@ fn letter_of(mem: &[u32], idx: &[u8], n: u32) -> u8 {
 
 // The next sum; with word 0 also the next number of a sequence that looks like chance.
 fn mix(sum: u32, word: u32) -> u32 {
-    ((sum as u64 * 1103515245 + word as u64 + 12345) % 4294967296) as u32
+    sum.wrapping_mul(1103515245)
+        .wrapping_add(word)
+        .wrapping_add(12345)
 }
 
 // Word i, 0 where there is none.
 fn word_at(mem: &[u32], i: usize) -> u32 {
-    if mem.len() <= i {
-        return 0;
-    }
-    mem[i]
+    mem.get(i).copied().unwrap_or(0)
 }
 
 // One more if the word is not 0.
 fn counted(n: u32, word: u32) -> u32 {
-    if word == 0 {
-        return n;
-    }
-    std::num::wrapping_add_u32(n, 1)
+    n.wrapping_add(u32::from(word != 0))
 }
 
 // The word and its place, where it is to be listed and not 0.
@@ -100,13 +95,11 @@ fn say_group(letter: u8, mem: &[u32], from: usize, to: usize, listed: bool) {
     io::write_all(1, &[letter, b' ']);
     let mut count = 0;
     let mut sum = 0;
-    let mut i = from;
-    while i < to {
+    for i in from..to {
         let word = word_at(mem, i);
         list_word(i - from, word, listed);
         count = counted(count, word);
         sum = mix(sum, word);
-        i += 1;
     }
     say_number(count, b' ');
     say_number(sum, b'\n');
@@ -114,14 +107,7 @@ fn say_group(letter: u8, mem: &[u32], from: usize, to: usize, listed: bool) {
 
 // The sum of the bytes.
 fn sum_of(idx: &[u8]) -> u32 {
-    let n = idx.len();
-    let mut sum = 0;
-    let mut i = 0;
-    while i < n {
-        sum = mix(sum, wide(idx[i]));
-        i += 1;
-    }
-    sum
+    idx.iter().fold(0, |sum, byte| mix(sum, u32::from(*byte)))
 }
 
 // The whole state: head, elements, processes, assignments, associations, prohibitions, index.
@@ -138,37 +124,20 @@ fn say_state(mem: &[u32], idx: &[u8], listed: bool) {
 
 // Puts v at word i, where there is such a word.
 fn put(mem: &mut [u32], i: usize, v: u32) {
-    if mem.len() <= i {
-        return;
-    }
-    mem[i] = v;
-}
-
-// Makes each byte the same.
-fn fill(idx: &mut [u8], byte: u8) {
-    let n = idx.len();
-    let mut i = 0;
-    while i < n {
-        idx[i] = byte;
-        i += 1;
+    if i < mem.len() {
+        mem[i] = v;
     }
 }
 
 // Puts n ids from `first` on behind a list of `at` ids, as far as there is room.
 fn append(ids: &mut [u32], at: u32, first: u32, n: u32) {
-    let mut i = 0;
-    while i < n {
-        put(
-            ids,
-            at as usize + i as usize,
-            std::num::wrapping_add_u32(first, i),
-        );
-        i += 1;
+    for i in 0..n {
+        put(ids, at as usize + i as usize, first.wrapping_add(i));
     }
 }
 
 // Assign, create class, and the index built.
-fn contain(mem: &mut [u32], idx: &mut [u8], o: Order) -> Outcome {
+fn contain(mem: &mut [u32], idx: &mut [u8], o: Order) -> Result<(), Refusal> {
     if o.letter == b'a' {
         return command::assign(mem, idx, o.a, o.b);
     }
@@ -179,7 +148,7 @@ fn contain(mem: &mut [u32], idx: &mut [u8], o: Order) -> Outcome {
 }
 
 // Deassign, create and delete element.
-fn replace(mem: &mut [u32], idx: &mut [u8], o: Order) -> Outcome {
+fn replace(mem: &mut [u32], idx: &mut [u8], o: Order) -> Result<(), Refusal> {
     if o.letter == b'd' {
         return command::deassign(mem, idx, o.a, o.b);
     }
@@ -190,7 +159,14 @@ fn replace(mem: &mut [u32], idx: &mut [u8], o: Order) -> Outcome {
 }
 
 // The commands about prohibitions: sort, subject and rights, and the form, and so many of the ids as inclusions.
-fn prohibit(mem: &mut [u32], idx: &mut [u8], o: Order, form: u32, n: u32, ids: &[u32]) -> Outcome {
+fn prohibit(
+    mem: &mut [u32],
+    idx: &mut [u8],
+    o: Order,
+    form: u32,
+    n: u32,
+    ids: &[u32],
+) -> Result<(), Refusal> {
     let k = words_of(n, ids);
     if o.letter == b'p' {
         return command::create_prohibition(mem, idx, o.a, o.b, form, o.c, &ids[..k], &ids[k..]);
@@ -199,7 +175,7 @@ fn prohibit(mem: &mut [u32], idx: &mut [u8], o: Order, form: u32, n: u32, ids: &
 }
 
 // The commands about associations and processes, and the empty table.
-fn relate(mem: &mut [u32], idx: &mut [u8], o: Order) -> Outcome {
+fn relate(mem: &mut [u32], idx: &mut [u8], o: Order) -> Result<(), Refusal> {
     if o.letter == b's' {
         return command::create_association(mem, idx, o.a, o.b, o.c);
     }
@@ -216,7 +192,14 @@ fn relate(mem: &mut [u32], idx: &mut [u8], o: Order) -> Outcome {
 }
 
 // A step that answers.
-fn obey(mem: &mut [u32], idx: &mut [u8], o: Order, form: u32, n: u32, ids: &[u32]) -> Outcome {
+fn obey(
+    mem: &mut [u32],
+    idx: &mut [u8],
+    o: Order,
+    form: u32,
+    n: u32,
+    ids: &[u32],
+) -> Result<(), Refusal> {
     if o.letter < b'd' {
         return contain(mem, idx, o);
     }
@@ -374,7 +357,7 @@ fn watched(mem: &[u32], idx: &[u8], i: u32, n: u32) -> u32 {
     if i % 64 != 0 {
         return n;
     }
-    wide(letter_of(mem, idx, n))
+    u32::from(letter_of(mem, idx, n))
 }
 
 // The sum of the answers and the state, after so many commands.
@@ -395,13 +378,11 @@ fn say_year(mem: &[u32], idx: &[u8], i: u32, sum: u32, every: u32) {
 fn year(mem: &mut [u32], idx: &mut [u8], seed: u32, count: u32, every: u32) {
     let mut x = seed;
     let mut sum = 0;
-    let mut i = 0;
-    while i < count {
+    for i in 1..=count {
         let r = mix(x, 0);
         let s = mix(r, 0);
         x = mix(s, 0);
         let n = live(mem, idx, r / 65536, s / 65536, x / 65536);
-        i += 1;
         sum = mix(sum, watched(mem, idx, i, n));
         say_year(mem, idx, i, sum, every);
     }
@@ -426,7 +407,7 @@ fn tell(mem: &mut [u32], idx: &mut [u8], o: Order) {
         return;
     }
     if o.letter == b'Z' {
-        fill(idx, (o.a % 256) as u8);
+        idx.fill((o.a % 256) as u8);
     }
 }
 
@@ -444,20 +425,14 @@ fn step(mem: &mut [u32], idx: &mut [u8], o: Order, form: u32, n: u32, ids: &[u32
 fn words_of(n: u32, words: &[u32]) -> usize
     ensures { IsPrefixLen result words.now }
 {
-    if words.len() < n as usize {
-        return words.len();
-    }
-    n as usize
+    words.len().min(n as usize)
 }
 
 // How many of n bytes there are.
 fn bytes_of(n: u32, bytes: &[u8]) -> usize
     ensures { IsPrefixLen result bytes.now }
 {
-    if bytes.len() < n as usize {
-        return bytes.len();
-    }
-    n as usize
+    bytes.len().min(n as usize)
 }
 
 // How many ids a step puts behind the lists.
@@ -485,7 +460,7 @@ fn kept_after(k: Kept, o: Order) -> Kept {
         kept.ids = 0;
         return kept;
     }
-    kept.ids = std::num::wrapping_add_u32(k.ids, listed(o));
+    kept.ids = k.ids.wrapping_add(listed(o));
     if o.letter == b'I' {
         kept.inclusions = kept.ids;
     }
@@ -510,44 +485,20 @@ fn turn(mem: &mut [u32], idx: &mut [u8], ids: &mut [u32], k: Kept, o: Order) -> 
     kept
 }
 
-// A byte as a number.
-fn wide(b: u8) -> u32
-    ensures value { result ≡ b }
-    ensures upper_bound { result < 256 }
-{
-    b as u32
-}
-
-// The number of two bytes from `at` on.
-fn two(script: &[u8], at: usize) -> u32
-    requires { at + 2 ≤ length script.now }
-    ensures { result < 65536 }
-{
-    wide(script[at]) * 256 + wide(script[at + 1])
-}
-
-// The number of four bytes from `at` on.
-fn four(script: &[u8], at: usize) -> u32
-    requires { at + 4 ≤ length script.now }
-{
-    two(script, at) * 65536 + two(script, at + 2)
-}
-
-// The step from `at` on.
-fn order_at(script: &[u8], at: usize) -> Order
-    requires { at + 13 ≤ length script.now }
+// The step that thirteen bytes are.
+fn order_in(s: &[u8]) -> Order
+    requires { length s.now ≡ 13 }
 {
     Order {
-        letter: script[at],
-        a: four(script, at + 1),
-        b: four(script, at + 5),
-        c: four(script, at + 9),
+        letter: s[0],
+        a: u32::from_be_bytes([s[1], s[2], s[3], s[4]]),
+        b: u32::from_be_bytes([s[5], s[6], s[7], s[8]]),
+        c: u32::from_be_bytes([s[9], s[10], s[11], s[12]]),
     }
 }
 
 // All steps of a script.
 fn run(script: &[u8], mem: &mut [u32], idx: &mut [u8], ids: &mut [u32]) {
-    let steps = script.len() / 13;
     let mut k = Kept {
         words: 8192,
         bytes: 32768,
@@ -555,10 +506,8 @@ fn run(script: &[u8], mem: &mut [u32], idx: &mut [u8], ids: &mut [u32]) {
         inclusions: 0,
         ids: 0,
     };
-    let mut i = 0;
-    while i < steps {
-        k = turn(mem, idx, ids, k, order_at(script, 13 * i));
-        i += 1;
+    for s in script.chunks_exact(13) {
+        k = turn(mem, idx, ids, k, order_in(s));
     }
 }
 

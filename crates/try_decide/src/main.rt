@@ -7,10 +7,10 @@ ghost use Rattle.io.specs.Counts.{IsPrefixLen};
 ghost use Rattle.table.specs.Facts.{Table};
 ghost use Rattle.store.specs.ProhibitionWords.{prohibition, Storable};
 
+use answer::Refusal;
 use decide::Decision;
 use explain::Explanation;
 use request::Request;
-use table::Outcome;
 
 // How many words of the memory and bytes of the index are lent.
 #[derive(Clone, Copy)]
@@ -50,30 +50,29 @@ fn say(letter: u8, n: u32) {
 }
 
 // Says a refusal, and nothing of what was done.
-fn say_refusal(r: Outcome) {
-    match r {
-        Outcome::Refused(n) => say(b'R', n),
-        Outcome::Done => {}
+fn say_refusal(r: Result<(), Refusal>) {
+    if let Err(refusal) = r {
+        say(b'R', u32::from(refusal));
     }
 }
 
 // Says what was decided.
-fn say_decision(d: Decision) {
+fn say_decision(d: Result<Decision, Refusal>) {
     match d {
-        Decision::Grant(k) => say(b'G', k),
-        Decision::Deny => {
+        Ok(Decision::Grant(k)) => say(b'G', k),
+        Ok(Decision::Deny) => {
             io::write_all(1, &[b'D', b'\n']);
         }
-        Decision::Refused(n) => say(b'R', n),
+        Err(refusal) => say(b'R', u32::from(refusal)),
     }
 }
 
 // A decision as one number.
-fn number_of(d: Decision) -> u32 {
+fn number_of(d: Result<Decision, Refusal>) -> u32 {
     match d {
-        Decision::Grant(k) => k % 256,
-        Decision::Deny => 256,
-        Decision::Refused(n) => 512 + n % 256,
+        Ok(Decision::Grant(k)) => k % 256,
+        Ok(Decision::Deny) => 256,
+        Err(refusal) => 512 + u32::from(refusal) % 256,
     }
 }
 
@@ -153,20 +152,14 @@ fn count(ids: [u32; 4]) -> u32 {
 fn words_of(n: u32, words: &[u32]) -> usize
     ensures { IsPrefixLen result words.now }
 {
-    if words.len() < n as usize {
-        return words.len();
-    }
-    n as usize
+    words.len().min(n as usize)
 }
 
 // How many of n bytes there are.
 fn bytes_of(n: u32, bytes: &[u8]) -> usize
     ensures { IsPrefixLen result bytes.now }
 {
-    if bytes.len() < n as usize {
-        return bytes.len();
-    }
-    n as usize
+    bytes.len().min(n as usize)
 }
 
 // Puts a prohibition in; says 3 where it is there, and 10 at the limit.
@@ -234,25 +227,14 @@ fn change(mem: &mut [u32], d: Draft, letter: u8, a: u32, b: u32, v: u32) {
 
 // Puts v at word i, where there is such a word.
 fn put(mem: &mut [u32], i: usize, v: u32) {
-    if mem.len() <= i {
-        return;
-    }
-    mem[i] = v;
-}
-
-// Makes each byte the same.
-fn fill(idx: &mut [u8], byte: u8) {
-    let n = idx.len();
-    let mut i = 0;
-    while i < n {
-        idx[i] = byte;
-        i += 1;
+    if i < mem.len() {
+        mem[i] = v;
     }
 }
 
 // The next number of a sequence that looks like chance.
 fn next(x: u32) -> u32 {
-    ((x as u64 * 1103515245 + 12345) % 4294967296) as u32
+    x.wrapping_mul(1103515245).wrapping_add(12345)
 }
 
 // A byte from such a number, 0 but in about `share` of 256 cases.
@@ -265,13 +247,10 @@ fn byte_of(x: u32, share: u32) -> u8 {
 
 // Makes the bytes foreign ones.
 fn scatter(idx: &mut [u8], seed: u32, share: u32) {
-    let n = idx.len();
     let mut x = seed;
-    let mut i = 0;
-    while i < n {
+    for byte in idx.iter_mut() {
         x = next(x);
-        idx[i] = byte_of(x, share);
-        i += 1;
+        *byte = byte_of(x, share);
     }
 }
 
@@ -299,7 +278,7 @@ fn change_index(mem: &[u32], idx: &mut [u8], letter: u8, a: u32, b: u32, v: u32)
         return;
     }
     if letter == b'Z' {
-        fill(idx, (a % 256) as u8);
+        idx.fill((a % 256) as u8);
         return;
     }
     if letter == b'F' {
@@ -310,7 +289,7 @@ fn change_index(mem: &[u32], idx: &mut [u8], letter: u8, a: u32, b: u32, v: u32)
 }
 
 // Decides plainly or by the index.
-fn decide_once(mem: &[u32], idx: &[u8], q: Request, indexed: bool) -> Decision {
+fn decide_once(mem: &[u32], idx: &[u8], q: Request, indexed: bool) -> Result<Decision, Refusal> {
     if indexed {
         return decide::decide_indexed(mem, idx, q);
     }
@@ -322,14 +301,12 @@ fn decide_once(mem: &[u32], idx: &[u8], q: Request, indexed: bool) -> Decision {
 fn ask(mem: &mut [u32], idx: &[u8], q: Request, indexed: bool, times: u32) {
     let first = decide_once(mem, idx, q, indexed);
     let number = number_of(first);
-    let mut i = 1;
-    while i < times {
+    for i in 1..times {
         put(mem, 7, i);
         if number_of(decide_once(mem, idx, q, indexed)) != number {
             say(b'X', i);
             return;
         }
-        i += 1;
     }
     say_decision(first);
 }
@@ -342,36 +319,23 @@ fn unused_row(i: usize) -> [u32; 8] {
 
 // Makes each row an unused one.
 fn clear_rows(rows: &mut [[u32; 8]]) {
-    let n = rows.len();
-    let mut i = 0;
-    while i < n {
-        rows[i] = unused_row(i);
-        i += 1;
+    for (i, row) in rows.iter_mut().enumerate() {
+        *row = unused_row(i);
     }
 }
 
 // Says a row: eight numbers.
 fn say_row(row: [u32; 8]) {
-    say_number(row[0], b' ');
-    say_number(row[1], b' ');
-    say_number(row[2], b' ');
-    say_number(row[3], b' ');
-    say_number(row[4], b' ');
-    say_number(row[5], b' ');
-    say_number(row[6], b' ');
+    for n in &row[..7] {
+        say_number(*n, b' ');
+    }
     say_number(row[7], b'\n');
 }
 
 // Says n rows and the first one beyond, as far as there are rows.
 fn say_rows(rows: &[[u32; 8]], n: u32) {
-    let all = rows.len();
-    let mut i = 0;
-    while i < all {
-        if (n as usize) < i {
-            return;
-        }
-        say_row(rows[i]);
-        i += 1;
+    for row in rows.iter().take(n as usize + 1) {
+        say_row(*row);
     }
 }
 
@@ -386,16 +350,16 @@ fn say_two(letter: u8, n: u32, m: u32) {
 fn explain_into(mem: &[u32], q: Request, rows: &mut [[u32; 8]]) {
     clear_rows(rows);
     match explain::explain_numbers(mem, q, rows) {
-        Explanation::Grant(alternative, n) => {
+        Ok(Explanation::Grant(alternative, n)) => {
             say_two(b'G', alternative, n);
             say_rows(rows, n);
         }
-        Explanation::Deny(n) => {
+        Ok(Explanation::Deny(n)) => {
             say(b'D', n);
             say_rows(rows, n);
         }
-        Explanation::Refused(number) => {
-            say(b'R', number);
+        Err(refusal) => {
+            say(b'R', u32::from(refusal));
             say_rows(rows, 0);
         }
     }
@@ -406,10 +370,7 @@ fn rows_of(n: u32, rows: &[[u32; 8]]) -> usize
     ensures upper_bound { result ≤ length rows.now }
     ensures value { result ≡ length (take result rows.now) }
 {
-    if rows.len() < n as usize {
-        return rows.len();
-    }
-    n as usize
+    rows.len().min(n as usize)
 }
 
 // Explains with so many rows lent.
@@ -606,37 +567,14 @@ fn kept_after(k: Kept, letter: u8, a: u32, b: u32, v: u32) -> Kept {
     }
 }
 
-// A byte as a number.
-fn wide(b: u8) -> u32
-    ensures value { result ≡ b }
-    ensures upper_bound { result < 256 }
+// The step that nine bytes are.
+fn turn(s: &[u8], mem: &mut [u32], idx: &mut [u8], k: Kept) -> Kept
+    requires { length s.now ≡ 9 }
 {
-    b as u32
-}
-
-// The number of two bytes from `at` on.
-fn two(script: &[u8], at: usize) -> u32
-    requires { at + 2 ≤ length script.now }
-    ensures { result < 65536 }
-{
-    wide(script[at]) * 256 + wide(script[at + 1])
-}
-
-// The number of four bytes from `at` on.
-fn four(script: &[u8], at: usize) -> u32
-    requires { at + 4 ≤ length script.now }
-{
-    two(script, at) * 65536 + two(script, at + 2)
-}
-
-// The step from `at` on.
-fn turn(script: &[u8], at: usize, mem: &mut [u32], idx: &mut [u8], k: Kept) -> Kept
-    requires { at + 9 ≤ length script.now }
-{
-    let letter = script[at];
-    let a = two(script, at + 1);
-    let b = two(script, at + 3);
-    let v = four(script, at + 5);
+    let letter = s[0];
+    let a = u32::from(u16::from_be_bytes([s[1], s[2]]));
+    let b = u32::from(u16::from_be_bytes([s[3], s[4]]));
+    let v = u32::from_be_bytes([s[5], s[6], s[7], s[8]]);
     let after = kept_after(k, letter, a, b, v);
     lend(mem, idx, after, letter, a, b, v);
     after
@@ -644,7 +582,6 @@ fn turn(script: &[u8], at: usize, mem: &mut [u32], idx: &mut [u8], k: Kept) -> K
 
 // All steps of a script.
 fn run(script: &[u8], mem: &mut [u32], idx: &mut [u8]) {
-    let steps = script.len() / 9;
     let mut k = Kept {
         lent: Lent {
             words: 8192,
@@ -665,10 +602,8 @@ fn run(script: &[u8], mem: &mut [u32], idx: &mut [u8]) {
             inclusions: [0; 4],
         },
     };
-    let mut i = 0;
-    while i < steps {
-        k = turn(script, 9 * i, mem, idx, k);
-        i += 1;
+    for s in script.chunks_exact(9) {
+        k = turn(s, mem, idx, k);
     }
 }
 

@@ -2,11 +2,10 @@
 // bytes, the high byte first; an image follows its step. second/ has the script's meaning and makes the stored input and output.
 #![tactic(auto)]
 
-ghost use Rattle.std.specs.Prelude.{◌≡◌, ◌+◌, ◌≤◌, ◌<◌, length};
+ghost use Rattle.std.specs.Prelude.{◌≡◌, ◌<◌, length};
 ghost use Rattle.io.specs.Counts.{IsPrefixLen};
 
-use image::Saved;
-use table::Outcome;
+use answer::Refusal;
 
 // How many words of the memory and bytes of the room are lent, and how many bytes the image has.
 #[derive(Clone, Copy)]
@@ -37,104 +36,59 @@ fn say_number(n: u32, end: u8) {
 
 // The letter of an answer: the first for "accepted", or that of the refusal number behind it.
 fn letter_of(n: u32) -> u8 {
-    (97 + n % 16) as u8
+    b'a' + (n % 16) as u8
 }
 
 // The refusal number of a call, 0 where it was done.
-fn number_of(r: Outcome) -> u32 {
+fn number_of(r: Result<(), Refusal>) -> u32 {
     match r {
-        Outcome::Done => 0,
-        Outcome::Refused(n) => n,
+        Ok(()) => 0,
+        Err(refusal) => u32::from(refusal),
     }
 }
 
 // What a save answers as one number: the length, or 65,536 times the refusal number.
-fn code_of(r: Saved) -> u32 {
+fn code_of(r: Result<usize, Refusal>) -> u32 {
     match r {
-        Saved::Length(n) => (n % 65536) as u32,
-        Saved::Refused(n) => n % 16 * 65536,
+        Ok(n) => (n % 65536) as u32,
+        Err(refusal) => u32::from(refusal) % 16 * 65536,
     }
 }
 
 // The next sum; also the next number of a sequence that looks like chance.
 fn mix(sum: u32, word: u32) -> u32 {
-    ((sum as u64 * 1103515245 + word as u64 + 12345) % 4294967296) as u32
-}
-
-// A byte as a number.
-fn wide(b: u8) -> u32
-    ensures value { result ≡ b }
-    ensures upper_bound { result < 256 }
-{
-    b as u32
+    sum.wrapping_mul(1103515245)
+        .wrapping_add(word)
+        .wrapping_add(12345)
 }
 
 // The sum of the words.
 fn sum_words(mem: &[u32]) -> u32 {
-    let n = mem.len();
-    let mut sum = 0;
-    let mut i = 0;
-    while i < n {
-        sum = mix(sum, mem[i]);
-        i += 1;
-    }
-    sum
+    mem.iter().fold(0, |sum, word| mix(sum, *word))
 }
 
 // The sum of the bytes.
 fn sum_bytes(bytes: &[u8]) -> u32 {
-    let n = bytes.len();
-    let mut sum = 0;
-    let mut i = 0;
-    while i < n {
-        sum = mix(sum, wide(bytes[i]));
-        i += 1;
-    }
-    sum
+    bytes.iter().fold(0, |sum, byte| mix(sum, u32::from(*byte)))
 }
 
 // Puts v at word i, where there is such a word.
 fn put(mem: &mut [u32], i: usize, v: u32) {
-    if mem.len() <= i {
-        return;
+    if i < mem.len() {
+        mem[i] = v;
     }
-    mem[i] = v;
 }
 
 // Word i, 0 where there is none.
 fn word_at(mem: &[u32], i: usize) -> u32 {
-    if mem.len() <= i {
-        return 0;
-    }
-    mem[i]
-}
-
-// Makes each byte the same.
-fn fill(bytes: &mut [u8], byte: u8) {
-    let n = bytes.len();
-    let mut i = 0;
-    while i < n {
-        bytes[i] = byte;
-        i += 1;
-    }
-}
-
-// Byte i of some, 0 where there is none.
-fn byte_at(bytes: &[u8], i: usize) -> u8 {
-    if bytes.len() <= i {
-        return 0;
-    }
-    bytes[i]
+    mem.get(i).copied().unwrap_or(0)
 }
 
 // Makes the bytes those of others, zero where these end.
 fn copy(to: &mut [u8], from: &[u8]) {
-    let n = to.len();
-    let mut i = 0;
-    while i < n {
-        to[i] = byte_at(from, i);
-        i += 1;
-    }
+    let n = to.len().min(from.len());
+    to[..n].copy_from_slice(&from[..n]);
+    to[n..].fill(0);
 }
 
 // Turns a bit over, where there is such a bit.
@@ -143,36 +97,28 @@ fn flip(bytes: &mut [u8], bit: usize) {
     if bytes.len() <= i {
         return;
     }
-    bytes[i] = bytes[i] ^ (128 >> (bit % 8));
+    bytes[i] ^= 128 >> (bit % 8);
 }
 
 // How many of n words there are.
 fn words_of(n: u32, words: &[u32]) -> usize
     ensures { IsPrefixLen result words.now }
 {
-    if words.len() < n as usize {
-        return words.len();
-    }
-    n as usize
+    words.len().min(n as usize)
 }
 
 // How many of n bytes there are.
 fn bytes_of(n: u32, bytes: &[u8]) -> usize
     ensures { IsPrefixLen result bytes.now }
 {
-    if bytes.len() < n as usize {
-        return bytes.len();
-    }
-    n as usize
+    bytes.len().min(n as usize)
 }
 
 // The state: the head, the sum of the words, the sum of the room.
 fn say_state(mem: &[u32], room: &[u8]) {
     io::write_all(1, b"H ");
-    let mut i = 0;
-    while i < 8 {
+    for i in 0..8 {
         say_number(word_at(mem, i), b' ');
-        i += 1;
     }
     say_number(sum_words(mem), b'\n');
     io::write_all(1, b"R ");
@@ -208,10 +154,8 @@ fn say_sum(sum: u32) {
 // Tries each cut.
 fn cuts(mem: &mut [u32], bytes: &[u8], room: &mut [u8], n: u32) {
     let mut sum = 0;
-    let mut i = 0;
-    while i < n {
+    for i in 0..n {
         sum = attempt_first(mem, bytes, i, room, sum);
-        i += 1;
     }
     say_sum(attempt(mem, bytes, room, sum));
 }
@@ -233,10 +177,8 @@ fn attempt_flipped(
 // Tries each of the first n bits turned over.
 fn flips(mem: &mut [u32], bytes: &mut [u8], room: &mut [u8], n: usize) {
     let mut sum = 0;
-    let mut i = 0;
-    while i < n {
+    for i in 0..n {
         sum = attempt_flipped(mem, bytes, room, i, sum);
-        i += 1;
     }
     say_sum(sum);
 }
@@ -246,11 +188,9 @@ fn scatter(bytes: &mut [u8], n: usize, x: u32, k: u32)
     requires { 0 < n }
 {
     let mut y = x;
-    let mut i = 0;
-    while i < k {
+    for _ in 0..k {
         y = mix(y, 1);
         flip(bytes, (y / 32768) as usize % n);
-        i += 1;
     }
 }
 
@@ -280,11 +220,9 @@ fn attempt_damaged(
 fn damages(mem: &mut [u32], bytes: &mut [u8], room: &mut [u8], n: u32, seed: u32, count: u32) {
     let mut x = seed;
     let mut sum = 0;
-    let mut i = 0;
-    while i < count {
+    for i in 0..count {
         x = mix(x, i);
         sum = attempt_damaged(mem, bytes, room, n, x, sum);
-        i += 1;
     }
     say_sum(sum);
 }
@@ -339,7 +277,7 @@ fn tell(mem: &mut [u32], room: &mut [u8], o: Order) {
         return;
     }
     if o.letter == b'Z' {
-        fill(room, (o.a % 256) as u8);
+        room.fill((o.a % 256) as u8);
     }
 }
 
@@ -387,7 +325,7 @@ fn take_image(bytes: &mut [u8], more: &[u8], n: u32, o: Order) {
     }
     if o.letter == b'N' {
         let k = bytes_of(n, bytes);
-        fill(&mut bytes[k..], 0);
+        bytes[k..].fill(0);
     }
 }
 
@@ -415,29 +353,14 @@ fn turn(
     kept
 }
 
-// The number of two bytes from `at` on.
-fn two(script: &[u8], at: usize) -> u32
-    requires { at + 2 ≤ length script.now }
-    ensures { result < 65536 }
-{
-    wide(script[at]) * 256 + wide(script[at + 1])
-}
-
-// The number of four bytes from `at` on.
-fn four(script: &[u8], at: usize) -> u32
-    requires { at + 4 ≤ length script.now }
-{
-    two(script, at) * 65536 + two(script, at + 2)
-}
-
-// The step from `at` on.
-fn order_at(script: &[u8], at: usize) -> Order
-    requires { at + 13 ≤ length script.now }
+// The step that thirteen bytes are.
+fn order_in(s: &[u8]) -> Order
+    requires { length s.now ≡ 13 }
 {
     Order {
-        letter: script[at],
-        a: four(script, at + 1),
-        b: four(script, at + 5),
+        letter: s[0],
+        a: u32::from_be_bytes([s[1], s[2], s[3], s[4]]),
+        b: u32::from_be_bytes([s[5], s[6], s[7], s[8]]),
     }
 }
 
@@ -448,13 +371,14 @@ fn run(script: &[u8], mem: &mut [u32], bytes: &mut [u8], room: &mut [u8]) {
         bytes: 16384,
         image: 0,
     };
-    let mut at = 0;
-    while 13 <= script.len() - at {
-        let o = order_at(script, at);
-        let from = at + 13;
-        let to = from + bytes_of(following(o), &script[from..]);
-        k = turn(mem, bytes, room, &script[from..to], k, o);
-        at = to;
+    let mut rest = script;
+    // A while: the place moves by what was read.
+    while 13 <= rest.len() {
+        let o = order_in(&rest[..13]);
+        let behind = &rest[13..];
+        let n = bytes_of(following(o), behind);
+        k = turn(mem, bytes, room, &behind[..n], k, o);
+        rest = &behind[n..];
     }
 }
 

@@ -5,10 +5,8 @@
 ghost use Rattle.std.specs.Prelude.{◌≡◌, ◌<◌, length};
 ghost use Rattle.table.specs.Facts.{Table};
 
-use bits::{Cursor, Fetched};
-use climb::Containment;
-use index::Matching;
-use table::Outcome;
+use answer::Refusal;
+use bits::Cursor;
 
 // A letter, a number and the end of the line.
 fn say(letter: u8, n: u32) {
@@ -18,28 +16,17 @@ fn say(letter: u8, n: u32) {
 }
 
 // Says a refusal, and nothing of what was done.
-fn say_refusal(r: Outcome) {
+fn say_refusal(r: Result<(), Refusal>) {
+    if let Err(refusal) = r {
+        say(b'R', u32::from(refusal));
+    }
+}
+
+// Says yes or no behind the letter of the question.
+fn say_yes(letter: u8, r: Result<bool, Refusal>) {
     match r {
-        Outcome::Refused(n) => say(b'R', n),
-        Outcome::Done => {}
-    }
-}
-
-// Says whether the one is within the other.
-fn say_containment(c: Containment) {
-    match c {
-        Containment::Within => say(b'C', 1),
-        Containment::Outside => say(b'C', 0),
-        Containment::Refused(n) => say(b'R', n),
-    }
-}
-
-// Says whether the index is the table's.
-fn say_matching(m: Matching) {
-    match m {
-        Matching::Same => say(b'T', 1),
-        Matching::Other => say(b'T', 0),
-        Matching::Refused(n) => say(b'R', n),
+        Ok(yes) => say(letter, u32::from(yes)),
+        Err(refusal) => say(b'R', u32::from(refusal)),
     }
 }
 
@@ -108,7 +95,7 @@ fn look(mem: &[u32], idx: &mut [u8], other: &mut [u8], letter: u8, a: u32, b: u3
         return;
     }
     if letter == b'T' {
-        say_matching(index::is_index(mem, idx));
+        say_yes(b'T', index::is_index(mem, idx));
         return;
     }
     if index::bit(idx, a % 512, b % 512) {
@@ -130,8 +117,8 @@ fn bits_step(room: &mut [u8], letter: u8, n: u32, at: usize, v: u32)
     }
     if letter == b'G' {
         match (Cursor { at }).read(room, n) {
-            Fetched::Got(value, next) => say(b'G', value),
-            Fetched::Cut => say(b'R', 12),
+            Some(bits) => say(b'G', bits.value),
+            None => say(b'R', 12),
         }
         return;
     }
@@ -141,19 +128,11 @@ fn bits_step(room: &mut [u8], letter: u8, n: u32, at: usize, v: u32)
     Cursor { at }.write(room, n, v);
 }
 
-// A byte as a number.
-fn wide(b: u8) -> u32
-    ensures value { result ≡ b }
-    ensures upper_bound { result < 256 }
-{
-    b as u32
-}
-
 // Two bytes as a number.
 fn two(high: u8, low: u8) -> u32
     ensures { result < 65536 }
 {
-    wide(high) * 256 + wide(low)
+    u32::from(u16::from_be_bytes([high, low]))
 }
 
 // One step.
@@ -179,7 +158,7 @@ fn step(mem: &mut [u32], idx: &mut [u8], room: &mut [u8], letter: u8, a: u32, b:
         return;
     }
     if letter == b'C' {
-        say_containment(climb::contained(mem, a, b));
+        say_yes(b'C', climb::contained(mem, a, b));
         return;
     }
     if is_change(letter) {
@@ -195,24 +174,12 @@ fn step(mem: &mut [u32], idx: &mut [u8], room: &mut [u8], letter: u8, a: u32, b:
 
 // Whether the step changes the table by a record.
 fn is_change(letter: u8) -> bool {
-    if letter == b'K' {
-        return true;
-    }
-    if letter == b'A' {
-        return true;
-    }
-    if letter == b'D' {
-        return true;
-    }
-    letter == b'U'
+    matches!(letter, b'K' | b'A' | b'D' | b'U')
 }
 
 // Whether the step is about bits.
 fn is_bits(letter: u8) -> bool {
-    if letter == b'P' {
-        return true;
-    }
-    letter == b'G'
+    matches!(letter, b'P' | b'G')
 }
 
 // All steps of a script.
@@ -221,15 +188,11 @@ fn run(script: &[u8], mem: &mut [u32], idx: &mut [u8], room: &mut [u8])
     requires idx_len { length idx.old ≡ 32768 }
     requires room_len { length room.old ≡ 64 }
 {
-    let steps = script.len() / 9;
-    let mut i = 0;
-    while i < steps {
-        let at = 9 * i;
-        let a = two(script[at + 1], script[at + 2]);
-        let b = two(script[at + 3], script[at + 4]);
-        let v = two(script[at + 5], script[at + 6]) * 65536 + two(script[at + 7], script[at + 8]);
-        step(mem, idx, room, script[at], a, b, v);
-        i += 1;
+    for s in script.chunks_exact(9) {
+        let a = two(s[1], s[2]);
+        let b = two(s[3], s[4]);
+        let v = u32::from_be_bytes([s[5], s[6], s[7], s[8]]);
+        step(mem, idx, room, s[0], a, b, v);
     }
 }
 

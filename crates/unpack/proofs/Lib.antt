@@ -1,6 +1,8 @@
 pub mod Narrow
 pub mod Laying
 pub mod Turns
+pub mod Numbers
+pub mod ById
 pub mod Records
 pub mod Prohibitions
 pub mod Whole

@@ -23,7 +23,9 @@ use Rattle.measure.specs.Places.{Reaches, behind}
 use Rattle.measure.proofs.Placed.{at_drop}
 use Rattle.screen.specs.Stowable.{lists_short}
 use Rattle.screen.proofs.Rules.{short_lists}
+use Rattle.unpack.specs.Words.{numbers}
 use Rattle.unpack.proofs.Turns.{taken_at}
+use Rattle.unpack.proofs.Numbers.{ids_numbers}
 
 -- ids and more behind them are read as one list
 ids_join : (n m : ℕ) (l : List Bool) → read_ids (n + m) l ≡ read_ids n l ++ read_ids m (drop (9 * n) l)
@@ -130,3 +132,8 @@ module _ {s : List ℕ} {at v w c p q r : ℕ} (reach : Reaches s (behind (bits_
         rw (counts, far, ← drop-drop 50 at (bits_of s), ids_join (num_at d 44 3) (num_at d 47 3) (drop 50 d), drop-drop (9 * num_at d 44 3) 50 d) in
         let base : List ℕ = (num_at d 0 2 * 1024 + num_at d 2 9 * 2 + num_at d 11 1) ∷ num_at d 12 32 ∷ (length x * 8 + length y) ∷ replicate 8 0 in
         e ∙ rw (ids, first_is, one, two) (record_written (storable k) refl (sym (laid_behind 3 x y base (omega arith))))
+
+    -- the ids being numbers of 9 bits
+    pub record_numbers : {rec : List ℕ} → rec ≡ laid 3 (numbers 9 n (drop r (bits_of s))) (v ∷ w ∷ c ∷ replicate 8 0)
+        → rec ≡ prohibition_record (read_prohibition (drop at (bits_of s))).value
+    record_numbers e = record_read (rw (ids_numbers n (drop r (bits_of s))) at e)

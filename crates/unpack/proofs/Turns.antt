@@ -1,4 +1,4 @@
--- The loops over the elements, the processes, the assignments, the associations and the ids of a list: before the first record, one more, the end.
+-- Elements, processes, assignments and associations laid one by one: before the first record, one more, the end.
 -- Assumes nothing.
 use mathlib.Core.Path.{◌≡◌, sym, ap, ◌∙◌}
 use mathlib.Core.Bool.{Bool}
@@ -9,7 +9,7 @@ use native.Mathlib.Numerals.{add-one}
 use native.Mathlib.Omega.{arith}
 use lib.ListN.{length, drop, set, length-set}
 use Rattle.model.specs.Bits.{bits_of, num_at}
-use Rattle.model.specs.Image.{read_element, read_assignment, read_association, read_ids, read_process, read_group}
+use Rattle.model.specs.Image.{read_element, read_assignment, read_association, read_process, read_group}
 use Rattle.model.proofs.Image.Bits.{length_bits_of}
 use Rattle.model.proofs.Image.Groups.{group_count}
 use Rattle.bits.specs.Cursor.{Taken}
@@ -37,10 +37,6 @@ assignments_on done left l mem = laid (776 + done) (words_of (λ a. assignment_r
 -- by the associations: two words each
 unfoldable pub associations_on : (done left : ℕ) → List Bool → List ℕ → List ℕ
 associations_on done left l mem = laid (2776 + 2 * done) (words_of association_record (read_group read_association left l).value) mem
-
--- by the ids: a word each, behind three
-unfoldable pub ids_on : (done left : ℕ) → List Bool → List ℕ → List ℕ
-ids_on done left l rec = laid (3 + done) (read_ids left l) rec
 
 -- a number that was taken is the one that stands so far behind a place
 pub taken_at : {s : List ℕ} {q n v next : ℕ} (p i : ℕ) → Taken s q n v next → q ≡ p + i → v ≡ num_at (drop p (bits_of s)) i n
@@ -75,10 +71,6 @@ module _ {s : List ℕ} {at n : ℕ} {mem : List ℕ} where
   -- before the first association
   pub associations_none : n ≤ 1000 → Reaches s at (50 * n) → length mem ≡ 8192 → Laying associations_on 50 1000 8192 s at n mem at 0 mem
   associations_none h r size = laying_none associations_on 50 1000 8192 s at n mem h r.few r.room size
-
-  -- before the first id
-  pub ids_none : n ≤ 8 → Reaches s at (9 * n) → length mem ≡ 11 → Laying ids_on 9 8 11 s at n mem at 0 mem
-  ids_none h r size = laying_none ids_on 9 8 11 s at n mem h r.few r.room size
 
 module _ {s : List ℕ} {at n : ℕ} {mem₀ : List ℕ} {p i : ℕ} {mem : List ℕ} where
   -- one element more: its kind is put into its word
@@ -124,14 +116,6 @@ module _ {s : List ℕ} {at n : ℕ} {mem₀ : List ℕ} {p i : ℕ} {mem : List
       laying_more c r (set m (2776 + 2 * i + 1) w) h far (length-set m (2776 + 2 * i + 1) w ∙ len)
       (λ k. rw two (pair_laid (2776 + 2 * i) _ _ _ mem e f (omega arith)))
 
-  -- one id more
-  pub id_more : {v q : ℕ} → Laying ids_on 9 8 11 s at n mem₀ p i mem → i < n → Taken s p 9 v q → Laying ids_on 9 8 11 s at n mem₀ q (i + 1) (set mem (3 + i) v)
-  unfolding ids_on read_ids
-  id_more {v} {q} c h t =
-      let e : v ≡ num_at (drop p (bits_of s)) 0 9 = taken_at p 0 t (sym (add-zero p)) in
-      let one : 3 + suc i ≡ suc (3 + i) = omega arith in
-      laying_more c q (set mem (3 + i) v) h t.next_is (length-set mem (3 + i) v) (λ k. rw (one, e) (laid_cons (3 + i) _ _ mem (omega arith)))
-
   -- at the end the kind of each element stands in its word
   pub elements_all : Laying kinds_on 12 511 8192 s at n mem₀ p i mem → n ≤ i → mem ≡ with_kinds (read_group read_element n (drop at (bits_of s))).value mem₀
   unfolding kinds_on read_group with_kinds
@@ -155,8 +139,3 @@ module _ {s : List ℕ} {at n : ℕ} {mem₀ : List ℕ} {p i : ℕ} {mem : List
   unfolding associations_on read_group with_associations stowed words_of
   associations_all c h =
       rw (group_count read_association n (drop at (bits_of s))) (ap (λ (m : List ℕ). set m 2 n) (sym (on_all c.on h ∙ laid_none (2776 + 2 * n) mem)))
-
-  -- and the ids
-  pub ids_all : Laying ids_on 9 8 11 s at n mem₀ p i mem → n ≤ i → mem ≡ laid 3 (read_ids n (drop at (bits_of s))) mem₀
-  unfolding ids_on read_ids
-  ids_all c h = sym (on_all c.on h ∙ laid_none (3 + n) mem)

@@ -8,7 +8,7 @@ use native.Mathlib.Omega.{arith}
 use lib.ListN.{length, drop}
 use Rattle.model.specs.Policy.{Assignment, Association, Prohibition}
 use Rattle.model.specs.Bits.{bits_of}
-use Rattle.model.specs.Image.{read_element, read_assignment, read_association, read_prohibition, read_process, read_group, policy_in}
+use Rattle.model.specs.Image.{read_assignment, read_association, read_prohibition, read_group, policy_in}
 use Rattle.model.proofs.Image.Groups.{group_count}
 use Rattle.model.proofs.Image.Counts.{limits}
 use Rattle.table.specs.View.{empty_table}
@@ -19,7 +19,8 @@ use Rattle.measure.proofs.Passing.{up_to_in}
 use Rattle.screen.specs.Stowable.{all_short, stowable}
 use Rattle.screen.proofs.Rules.{parts}
 use Rattle.screen.proofs.Answers.{place_after, prohibitions_reached}
-use Rattle.unpack.specs.Words.{with_kinds, with_users, with_assignments, with_associations, with_prohibitions, table_of}
+use Rattle.unpack.specs.Words.{by_id, with_assignments, with_associations, with_prohibitions, table_of}
+use Rattle.unpack.proofs.ById.{kinds_by_id, users_by_id}
 
 -- Where the bits reach behind the prohibitions,
 module _ {s : List ℕ} (at a o b : ℕ) (r : Reaches s (behind (bits_of s) (at + 18 * a + 50 * o) b) 0) where
@@ -89,17 +90,16 @@ module _ {s : List ℕ} (u : Uncut s) {e a o b q : ℕ} (k : Counted (bits_of s)
 
   -- all groups laid over the empty table are the words of the policy
   pub all_laid : {r : ℕ} {m₀ m₁ m₂ m₃ : List ℕ} → m₀ ≡ empty_table → r ≡ up_to (8 * length s) (behind (bits_of s) (place_after e a o) b)
-      → m₁ ≡ with_kinds (read_group read_element e (drop 50 (bits_of s))).value m₀
-      → m₂ ≡ with_users (read_group read_process q (drop r (bits_of s))).value m₁
+      → m₁ ≡ by_id 9 3 8 e (drop 50 (bits_of s)) m₀ → m₂ ≡ by_id 8 9 520 q (drop r (bits_of s)) m₁
       → m₃ ≡ with_prohibitions (read_group read_prohibition b (drop (place_after e a o) (bits_of s))).value
       (with_associations (read_group read_association o (drop (50 + 12 * e + 18 * a) (bits_of s))).value
       (with_assignments (read_group read_assignment a (drop (50 + 12 * e) (bits_of s))).value m₂))
       → m₃ ≡ table_of (policy_in s)
   unfolding table_of
-  all_laid z f x y w =
+  all_laid {r} {m₀} {m₁} z f x y w =
       w ∙ rw (
-        y,
-        x,
+        y ∙ users_by_id q (drop r (bits_of s)) m₁,
+        x ∙ kinds_by_id e (drop 50 (bits_of s)) m₀,
         z,
         behind_is f,
         k.elements_are,

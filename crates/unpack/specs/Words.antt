@@ -1,12 +1,24 @@
 -- The words of a table that is a policy: those of the empty table, with each group laid in its place.
 -- Assumes nothing.
-use Rattle.std.specs.Prelude.{List, [], ◌∷◌, ◌++◌, ℕ, length, set}
+use Rattle.std.specs.Prelude.{Bool, List, [], ◌∷◌, ◌++◌, ℕ, zero, suc, ◌+◌, length, drop, set}
+use Rattle.model.specs.Bits.{num_at}
 use Rattle.model.specs.Policy.{Element, Assignment, Association, Prohibition, Process, Policy}
 use Rattle.group.specs.Group.{laid}
 use Rattle.table.specs.Layout.{assignments_from, assignment_counter, associations_from, association_counter, prohibitions_from, prohibition_counter}
 use Rattle.table.specs.View.{empty_table}
 use Rattle.store.specs.Words.{with_kind, with_user, assignment_record, association_record}
 use Rattle.store.specs.ProhibitionWords.{prohibition_record}
+
+-- n numbers that bits spell, of so many bits each
+unfoldable pub numbers : (width n : ℕ) → List Bool → List ℕ
+numbers width zero l = []
+numbers width (suc n) l = num_at l 0 width ∷ numbers width n (drop width l)
+
+-- the words with the values of n records that bits spell, an id and a value of so many bits each: each in the id's place, of those from `from` on
+unfoldable pub by_id : (id_bits value_bits from n : ℕ) → List Bool → List ℕ → List ℕ
+by_id id_bits value_bits from zero l mem = mem
+by_id id_bits value_bits from (suc n) l mem =
+    by_id id_bits value_bits from n (drop (id_bits + value_bits) l) (set mem (from + num_at l 0 id_bits) (num_at l id_bits value_bits))
 
 -- the words with the kinds of elements, each in the element's place
 unfoldable pub with_kinds : List Element → List ℕ → List ℕ

@@ -1,15 +1,15 @@
 // The records of an image, laid into the words of a table.
 #![tactic(auto)]
 
-ghost use Rattle.std.specs.Prelude.{◌≡◌, true, ◌+◌, ◌*◌, ◌/◌, ◌%◌, ◌≤◌, ◌<◌, length, drop};
+ghost use Rattle.std.specs.Prelude.{◌≡◌, true, ◌+◌, ◌*◌, ◌/◌, ◌%◌, ◌^◌, ◌≤◌, length, drop};
 ghost use Rattle.model.specs.Bits.{bits_of};
-ghost use Rattle.model.specs.Image.{read_element, read_assignment, read_association, read_ids, read_prohibition, read_process, read_group, policy_in};
+ghost use Rattle.model.specs.Image.{read_assignment, read_association, read_prohibition, read_group, policy_in};
 ghost use Rattle.group.specs.Group.{laid};
 ghost use Rattle.table.specs.View.{empty_table};
 ghost use Rattle.store.specs.ProhibitionWords.{prohibition_record};
 ghost use Rattle.measure.specs.Places.{Reaches, Uncut, behind};
 ghost use Rattle.screen.specs.Stowable.{lists_short, all_short, stowable};
-ghost use Rattle.unpack.specs.Words.{with_kinds, with_users, with_assignments, with_associations, with_prohibitions, table_of};
+ghost use Rattle.unpack.specs.Words.{numbers, by_id, with_assignments, with_associations, with_prohibitions, table_of};
 
 use bits::Cursor;
 use table::{
@@ -17,43 +17,46 @@ use table::{
     PROHIBITIONS, USERS,
 };
 
-// The n elements at a place, each kind into its element's word.
-fn unpack_elements(s: &[u8], at: usize, n: usize, mem: &mut [u32])
-    requires n_bound { n < 512 }
-    requires reaches { Reaches s.now at (12 * n) }
-    requires mem_len { length mem.old ≡ 8192 }
-    ensures { mem.new ≡ with_kinds (read_group read_element n (drop at (bits_of s.now))).value mem.old }
+// The n records at a place, an id and a value of so many bits each: each value into its id's word, of the words from `from` on.
+fn unpack_by_id(
+    s: &[u8],
+    at: usize,
+    n: usize,
+    id_bits: u32,
+    value_bits: u32,
+    mem: &mut [u32],
+    from: usize,
+)
+    requires le_id_bits { 1 ≤ id_bits }
+    requires id_bits_bound { id_bits ≤ 9 }
+    requires le_value_bits { 1 ≤ value_bits }
+    requires value_bits_bound { value_bits ≤ 9 }
+    requires reaches { Reaches s.now at ((id_bits + value_bits) * n) }
+    requires room { from + 2 ^ id_bits ≤ length mem.old }
+    ensures { mem.new ≡ by_id id_bits value_bits from n (drop at (bits_of s.now)) mem.old }
 {
-    let mut p = at;
-    let mut i = 0;
-    while i < n {
-        let id = Cursor { at: p }.take(s, 9);
-        let c = id.next;
-        let kind = c.take(s, 3);
-        mem[KINDS + id.value as usize] = kind.value;
-        let d = kind.next;
-        p = d.at;
-        i += 1;
+    let mut next = Cursor { at };
+    for _ in 0..n {
+        let id = next.take(s, id_bits);
+        let value = id.next.take(s, value_bits);
+        mem[from + id.value as usize] = value.value;
+        next = value.next;
     }
 }
 
-// The n processes at a place, each user into its process's word.
-fn unpack_processes(s: &[u8], at: usize, n: usize, mem: &mut [u32])
-    requires n_bound { n < 256 }
-    requires reaches { Reaches s.now at (17 * n) }
-    requires mem_len { length mem.old ≡ 8192 }
-    ensures { mem.new ≡ with_users (read_group read_process n (drop at (bits_of s.now))).value mem.old }
+// The n numbers of `width` bits at a place, each into a word of its own from `from` on.
+fn unpack_numbers(s: &[u8], at: usize, n: usize, width: u32, mem: &mut [u32], from: usize)
+    requires le_width { 1 ≤ width }
+    requires width_bound { width ≤ 32 }
+    requires reaches { Reaches s.now at (width * n) }
+    requires room { from + n ≤ length mem.old }
+    ensures { mem.new ≡ laid from (numbers width n (drop at (bits_of s.now))) mem.old }
 {
-    let mut p = at;
-    let mut i = 0;
-    while i < n {
-        let id = Cursor { at: p }.take(s, 8);
-        let c = id.next;
-        let user = c.take(s, 9);
-        mem[USERS + id.value as usize] = user.value;
-        let d = user.next;
-        p = d.at;
-        i += 1;
+    let mut next = Cursor { at };
+    for i in 0..n {
+        let number = next.take(s, width);
+        mem[from + i] = number.value;
+        next = number.next;
     }
 }
 
@@ -64,15 +67,7 @@ fn unpack_assignments(s: &[u8], at: usize, n: usize, mem: &mut [u32])
     requires mem_len { length mem.old ≡ 8192 }
     ensures { mem.new ≡ with_assignments (read_group read_assignment n (drop at (bits_of s.now))).value mem.old }
 {
-    let mut p = at;
-    let mut i = 0;
-    while i < n {
-        let a = Cursor { at: p }.take(s, 18);
-        mem[ASSIGNMENTS + i] = a.value;
-        let c = a.next;
-        p = c.at;
-        i += 1;
-    }
+    unpack_numbers(s, at, n, 18, mem, ASSIGNMENTS);
     mem[ASSIGNMENT_COUNTER] = n as u32;
 }
 
@@ -83,37 +78,15 @@ fn unpack_associations(s: &[u8], at: usize, n: usize, mem: &mut [u32])
     requires mem_len { length mem.old ≡ 8192 }
     ensures { mem.new ≡ with_associations (read_group read_association n (drop at (bits_of s.now))).value mem.old }
 {
-    let mut p = at;
-    let mut i = 0;
-    while i < n {
-        let ends = Cursor { at: p }.take(s, 18);
-        let c = ends.next;
-        let rights = c.take(s, 32);
+    let mut next = Cursor { at };
+    for i in 0..n {
+        let ends = next.take(s, 18);
+        let rights = ends.next.take(s, 32);
         mem[ASSOCIATIONS + 2 * i] = ends.value;
         mem[ASSOCIATIONS + 2 * i + 1] = rights.value;
-        let d = rights.next;
-        p = d.at;
-        i += 1;
+        next = rights.next;
     }
     mem[ASSOCIATION_COUNTER] = n as u32;
-}
-
-// n ids at a place, into the record's words behind the first three.
-fn unpack_ids(s: &[u8], at: usize, n: usize, rec: &mut [u32])
-    requires n_bound { n ≤ 8 }
-    requires reaches { Reaches s.now at (9 * n) }
-    requires rec_len { length rec.old ≡ 11 }
-    ensures { rec.new ≡ laid 3 (read_ids n (drop at (bits_of s.now))) rec.old }
-{
-    let mut p = at;
-    let mut i = 0;
-    while i < n {
-        let id = Cursor { at: p }.take(s, 9);
-        rec[3 + i] = id.value;
-        let c = id.next;
-        p = c.at;
-        i += 1;
-    }
 }
 
 // How many ids are listed, by the two counts in one number.
@@ -129,17 +102,14 @@ fn prohibition_at(s: &[u8], at: usize) -> [u32; 11]
     requires s_value { lists_short (read_prohibition (drop at (bits_of s.now))).value ≡ true }
     ensures { result ≡ prohibition_record (read_prohibition (drop at (bits_of s.now))).value }
 {
-    let mut rec = [0u32; 11];
+    let mut rec = [0; 11];
     let subject = Cursor { at }.take(s, 12);
-    let c = subject.next;
-    let rights = c.take(s, 32);
-    let d = rights.next;
-    let counts = d.take(s, 6);
+    let rights = subject.next.take(s, 32);
+    let counts = rights.next.take(s, 6);
     rec[0] = subject.value;
     rec[1] = rights.value;
     rec[2] = counts.value;
-    let e = counts.next;
-    unpack_ids(s, e.at, listed(counts.value), &mut rec);
+    unpack_numbers(s, counts.next.at, listed(counts.value), 9, &mut rec, 3);
     rec
 }
 
@@ -152,12 +122,11 @@ fn unpack_prohibitions(s: &[u8], at: usize, n: usize, mem: &mut [u32])
     ensures { mem.new ≡ with_prohibitions (read_group read_prohibition n (drop at (bits_of s.now))).value mem.old }
 {
     let mut p = at;
-    let mut i = 0;
-    while i < n {
+    for i in 0..n {
         let rec = prohibition_at(s, p);
-        group::store(mem, PROHIBITIONS + 11 * i, &rec);
+        let start = PROHIBITIONS + 11 * i;
+        mem[start..start + 11].copy_from_slice(&rec);
         p += measure::PROHIBITION + 9 * listed(rec[2]);
-        i += 1;
     }
     mem[PROHIBITION_COUNTER] = n as u32;
 }
@@ -199,8 +168,8 @@ pub fn unpack(s: &[u8], mem: &mut [u32])
         + measure::ASSIGNMENT * h.assignments
         + measure::ASSOCIATION * h.associations;
     let processes = measure::behind(s, prohibitions, h.prohibitions);
-    unpack_elements(s, measure::HEAD, h.elements, mem);
-    unpack_processes(s, processes, h.processes, mem);
+    unpack_by_id(s, measure::HEAD, h.elements, 9, 3, mem, KINDS);
+    unpack_by_id(s, processes, h.processes, 8, 9, mem, USERS);
     unpack_relations(
         s,
         relations,

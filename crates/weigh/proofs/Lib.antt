@@ -1,4 +1,3 @@
-pub mod Tallied
 pub mod Present
 pub mod Listing
 pub mod Sized

@@ -1,18 +1,24 @@
-use Rattle.command.proofs.Calls.{association_attribute, association_done, association_target, call_refused}
-use Rattle.refusals.proofs.Accepts.{accepts_table}
+use Rattle.std.proofs.lemmas.Result.{err_from_is_err_and}
+use Rattle.command.proofs.Calls.{association_attribute, association_done, association_room, association_target, call_refused, call_table}
 use Rattle.command.proofs.create_association.Goals as goal
 
-pub returns-then-number-gt0 : goal.returns-then-number-gt0
-returns-then-number-gt0 c = search call_refused
+pub returns-in_err-create_association : goal.returns-in_err-create_association
+returns-in_err-create_association c =
+    let p = err_from_is_err_and c.from_residual.result c.from_residual.ensures.1 in
+    rw (p.1, p.2) (call_refused _ _ _ _ c.in_err-create_association.ensures)
 
 pub add_association-requires-clause-table : goal.add_association-requires-clause-table
-add_association-requires-clause-table c = search accepts_table
+add_association-requires-clause-table c = search (call_table, c.in_ok-create_association.ensures)
 
 pub add_association-requires-clause-attribute_bound : goal.add_association-requires-clause-attribute_bound
-add_association-requires-clause-attribute_bound c = search association_attribute
+add_association-requires-clause-attribute_bound c = search (association_attribute, c.in_ok-create_association.ensures)
 
 pub add_association-requires-clause-target_bound : goal.add_association-requires-clause-target_bound
-add_association-requires-clause-target_bound c = search association_target
+add_association-requires-clause-target_bound c = search (association_target, c.in_ok-create_association.ensures)
 
 pub returns : goal.returns
-returns c = search association_done
+returns c = search (association_done, c.in_ok-create_association.ensures, c.in_ok-add_association.ensures)
+
+-- what is not refused has room
+pub returns-in_err-add_association : goal.returns-in_err-add_association
+returns-in_err-add_association c = association_room _ _ _ c.in_ok-create_association.ensures _ c.in_err-add_association.ensures

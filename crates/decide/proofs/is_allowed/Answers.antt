@@ -2,13 +2,13 @@ use Rattle.decide.proofs.Allowed.{not_asked, is_asked, rows_with_right, right_wi
 use Rattle.decide.proofs.is_allowed.Goals as goal
 
 pub returns-then-not-has_right : goal.returns-then-not-has_right
-returns-then-not-has_right c = search not_asked
+returns-then-not-has_right g c = search not_asked
 
 pub is_permitted-requires-clause-right_bound : goal.is_permitted-requires-clause-right_bound
-is_permitted-requires-clause-right_bound c = search right_with_right
+is_permitted-requires-clause-right_bound g c = search right_with_right
 
 pub is_permitted-requires-clause-rows : goal.is_permitted-requires-clause-rows
-is_permitted-requires-clause-rows c = search rows_with_right
+is_permitted-requires-clause-rows g c = search rows_with_right
 
 pub returns : goal.returns
-returns c = search is_asked
+returns g c = search is_asked

@@ -1,14 +1,11 @@
-use Rattle.denials.proofs.Reasons.{cause_user, cause_process, cause_nothing, cause_attribute}
+use Rattle.denials.proofs.Reasons.{cause_user, cause_process, cause_attribute}
 use Rattle.denials.proofs.restriction.Goals as goal
 
-pub returns-then-user-ne-NONE : goal.returns-then-user-ne-NONE
-returns-then-user-ne-NONE c = search cause_user
+pub returns-in-Some : goal.returns-in-Some
+returns-in-Some c = cause_user _ _ c.requires.element_value c.in-Some.ensures
 
-pub returns-then-process-ne-NONE : goal.returns-then-process-ne-NONE
-returns-then-process-ne-NONE c = search cause_process
-
-pub returns-then-attribute-eq-NONE : goal.returns-then-attribute-eq-NONE
-returns-then-attribute-eq-NONE c = search cause_nothing
+pub returns-in-Some-lowest_subject : goal.returns-in-Some-lowest_subject
+returns-in-Some-lowest_subject c = cause_process _ _ c.requires.element_value c.in_default.ensures c.in-Some-lowest_subject.ensures
 
 pub returns : goal.returns
-returns c = search cause_attribute
+returns c = rw c.unwrap_or.ensures (cause_attribute _ _ c.requires.element_value c.in_default.ensures c.in_default-lowest_subject.ensures c.lowest_subject-3.ensures)

@@ -11,10 +11,10 @@ pub returns-then-s-start : goal.returns-then-s-start
 returns-then-s-start c = search short_printed
 
 pub put_counts-requires-clause-table : goal.put_counts-requires-clause-table
-put_counts-requires-clause-table c = search loaded_table
+put_counts-requires-clause-table c = search (loaded_table, c.in-Ok.ensures)
 
-pub returns-in-Done : goal.returns-in-Done
-returns-in-Done c = search open_printed
+pub returns-in-Ok : goal.returns-in-Ok
+returns-in-Ok c = search (open_printed, c.in-Ok.ensures)
 
-pub returns-in-Refused : goal.returns-in-Refused
-returns-in-Refused c = search refused_printed
+pub returns-in-Err : goal.returns-in-Err
+returns-in-Err c = search (refused_printed, c.in-Err.ensures)

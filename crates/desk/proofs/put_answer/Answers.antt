@@ -1,20 +1,14 @@
-use Rattle.desk.proofs.Answering.{set_put, grant_put, refusal_put, deny_put, denied_accepted, denied_verdict}
+use Rattle.desk.proofs.Answering.{set_put, refusal_put, verdict_put}
 use Rattle.desk.proofs.put_answer.Goals as goal
 
 pub returns-then-last-eq1 : goal.returns-then-last-eq1
 returns-then-last-eq1 c = search set_put
 
-pub put_denial-requires-clause-accepted : goal.put_denial-requires-clause-accepted
-put_denial-requires-clause-accepted c = search denied_accepted
+pub put_verdict-requires-clause-decided : goal.put_verdict-requires-clause-decided
+put_verdict-requires-clause-decided c = c.in-Ok.ensures
 
-pub put_denial-requires-clause-q_value : goal.put_denial-requires-clause-q_value
-put_denial-requires-clause-q_value c = search denied_verdict
+pub returns-in-Ok : goal.returns-in-Ok
+returns-in-Ok c = search verdict_put
 
-pub returns-in-Grant : goal.returns-in-Grant
-returns-in-Grant c = search grant_put
-
-pub returns-in-Deny : goal.returns-in-Deny
-returns-in-Deny c = search deny_put
-
-pub returns-in-Refused : goal.returns-in-Refused
-returns-in-Refused c = search refusal_put
+pub returns-in-Err : goal.returns-in-Err
+returns-in-Err c = search (refusal_put, c.in-Err.ensures)

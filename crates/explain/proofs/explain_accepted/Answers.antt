@@ -1,5 +1,5 @@
 use Rattle.decide.proofs.Sights.{user_known, climbed_rows}
-use Rattle.explain.proofs.Answered.{first_read, second_read, decided_first, decided_second, decided_deny, decided_refused}
+use Rattle.explain.proofs.Answered.{first_read, second_read, decided_first, decided_second, decided_deny}
 use Rattle.explain.proofs.explain_accepted.Goals as goal
 
 pub climb_rows-rows-requires-clause-user_bound : goal.climb_rows-rows-requires-clause-user_bound
@@ -31,6 +31,3 @@ explain_deny-requires-clause-all_rows c = search climbed_rows
 
 pub explain_deny-requires-clause-q_value : goal.explain_deny-requires-clause-q_value
 explain_deny-requires-clause-q_value c = search (decided_deny, c.choose-decision.ensures, c.in-Deny.is)
-
-pub returns-in-Refused : goal.returns-in-Refused
-returns-in-Refused c = search decided_refused

@@ -1,14 +1,8 @@
-use Rattle.exports.proofs.Cases.{grant_code, deny_code, refused_decision_code, decision_fits}
+use Rattle.exports.proofs.Cases.{decided_code, refused_decision_code}
 use Rattle.exports.proofs.decision_code.Goals as goal
 
-pub overflow_add-result : goal.overflow_add-result
-overflow_add-result c = record { fits = search decision_fits }
+pub returns-in-Ok : goal.returns-in-Ok
+returns-in-Ok c = decided_code c.in-Ok.is c.verdict_code.ensures
 
-pub returns-in-Grant : goal.returns-in-Grant
-returns-in-Grant c = search grant_code
-
-pub returns-in-Deny : goal.returns-in-Deny
-returns-in-Deny c = search deny_code
-
-pub returns-in-Refused : goal.returns-in-Refused
-returns-in-Refused c = search refused_decision_code
+pub returns-in-Err : goal.returns-in-Err
+returns-in-Err c = refused_decision_code c.in-Err.is c.refusal_code.ensures.value

@@ -1,14 +1,8 @@
-use Rattle.exports.proofs.Cases.{grant_rows_code, deny_rows_code, refused_rows_code, explanation_fits}
+use Rattle.exports.proofs.Cases.{explained_code, refused_rows_code}
 use Rattle.exports.proofs.explain_code.Goals as goal
 
-pub overflow_add-n : goal.overflow_add-n
-overflow_add-n c = record { fits = search explanation_fits }
+pub returns-in-Ok : goal.returns-in-Ok
+returns-in-Ok c = explained_code c.in-Ok.is c.rows_code.ensures
 
-pub returns-in-Grant : goal.returns-in-Grant
-returns-in-Grant c = search grant_rows_code
-
-pub returns-in-Deny : goal.returns-in-Deny
-returns-in-Deny c = search deny_rows_code
-
-pub returns-in-Refused : goal.returns-in-Refused
-returns-in-Refused c = search refused_rows_code
+pub returns-in-Err : goal.returns-in-Err
+returns-in-Err c = refused_rows_code c.in-Err.is c.refusal_code.ensures.value c.pair.ensures

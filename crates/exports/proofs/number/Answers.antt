@@ -1,8 +1,8 @@
 use Rattle.exports.proofs.Cases.{done_number, refused_number}
 use Rattle.exports.proofs.number.Goals as goal
 
-pub returns-in-Done : goal.returns-in-Done
-returns-in-Done c = search done_number
+pub returns-in-Ok : goal.returns-in-Ok
+returns-in-Ok c = search done_number
 
-pub returns-in-Refused : goal.returns-in-Refused
-returns-in-Refused c = search refused_number
+pub returns-in-Err : goal.returns-in-Err
+returns-in-Err c = refused_number c.in-Err.is c.from.ensures

@@ -1,12 +1,6 @@
--- `group::store` meets its contract. Invariant: the record's first i words are there. Assumes nothing.
-use Rattle.group.proofs.Moves.{copied_none, copied_more, copied_all}
+use mathlib.Core.Path.{refl}
+use Rattle.group.proofs.Moves.{put_laid}
 use Rattle.group.proofs.store.Goals as goal
 
-pub loop-i-init : goal.loop-i-init
-loop-i-init c = search copied_none
-
-pub loop-i-preserved : goal.loop-i-preserved
-loop-i-preserved c = search copied_more
-
 pub returns : goal.returns
-returns c = search copied_all
+returns c = put_laid c.args.at _ c.args.rec.now _ c.args.mem.now c.copy_from_slice.ensures.after refl

@@ -8,7 +8,7 @@ pub loop-i-init : goal.loop-i-init
 loop-i-init c = zeros_none _ _
 
 pub loop-i-preserved : goal.loop-i-preserved
-loop-i-preserved c = search zeros_more
+loop-i-preserved c = zeros_more c.loop-i.invariant c.loop-i-test.true c.from-sum.ensures (c.type_inv.rows _)
 
 pub returns : goal.returns
 returns c = search zeros_all

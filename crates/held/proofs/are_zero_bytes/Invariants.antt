@@ -1,9 +1,5 @@
 use Rattle.held.proofs.Eights.{ZeroTo}
-use Prim.Native.Nat.{◌-◌}
 use Rattle.held.proofs.are_zero_bytes.Given as goal
 
 abbrev pub invariant-loop-i : goal.invariant-loop-i
 invariant-loop-i l = ZeroTo l.rows l.from l.sum l.i
-
-abbrev pub decreases-loop-i : goal.decreases-loop-i
-decreases-loop-i l = 8 - l.i

@@ -1,4 +1,4 @@
-use Rattle.std.proofs.Common.{◌≡◌, ◌+◌, ◌*◌, ◌-◌, length}
+use Rattle.std.proofs.Common.{◌≡◌, ◌+◌, ◌*◌, length}
 use Rattle.index.specs.Passes.{Climbed}
 use Rattle.index.proofs.+climb_climb_from.Given as goal
 
@@ -11,6 +11,3 @@ decreases-climb_from l = 2 * l.deep + 1
 -- some assignments are done
 abbrev pub invariant-climb_from-loop-i : goal.invariant-climb_from-loop-i
 invariant-climb_from-loop-i l = (length l.seen ≡ 512) × Climbed l.mem l.initial.idx l.idx
-
-abbrev pub decreases-climb_from-loop-i : goal.decreases-climb_from-loop-i
-decreases-climb_from-loop-i l = l.count - l.i

@@ -1,10 +1,7 @@
 use Rattle.index.specs.Rows.{Added}
-use Prim.Native.Nat.{◌≤◌, ◌-◌}
+use Prim.Native.Nat.{◌≤◌}
 use Rattle.index.proofs.add_row.Given as goal
 
 -- the first k bytes are added
 abbrev pub invariant-loop-k : goal.invariant-loop-k
 invariant-loop-k l = (l.k ≤ 64) × Added l.initial.idx l.a l.b l.k l.grew l.idx
-
-abbrev pub decreases-loop-k : goal.decreases-loop-k
-decreases-loop-k l = 64 - l.k

@@ -1,4 +1,4 @@
-use Rattle.index.proofs.Answered.{match_no_table, match_bad_index, match_same, match_other}
+use Rattle.index.proofs.Answered.{match_no_table, match_bad_index, match_told}
 use Rattle.table.proofs.Asked.{tested}
 use Rattle.index.proofs.is_index.Goals as goal
 
@@ -11,8 +11,5 @@ returns-then-idx-ne32768 c = search match_bad_index
 pub is_same-requires-clause-table : goal.is_same-requires-clause-table
 is_same-requires-clause-table c = search tested
 
-pub returns-then-is_same : goal.returns-then-is_same
-returns-then-is_same c = search match_same
-
 pub returns : goal.returns
-returns c = search match_other
+returns c = search match_told

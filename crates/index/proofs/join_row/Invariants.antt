@@ -1,10 +1,7 @@
 use Rattle.index.specs.Rows.{RowJoined}
-use Prim.Native.Nat.{◌≤◌, ◌-◌}
+use Prim.Native.Nat.{◌≤◌}
 use Rattle.index.proofs.join_row.Given as goal
 
 -- the first k bytes are added
 abbrev pub invariant-loop-k : goal.invariant-loop-k
 invariant-loop-k l = (l.k ≤ 64) × RowJoined l.idx l.x l.k l.initial.row l.row
-
-abbrev pub decreases-loop-k : goal.decreases-loop-k
-decreases-loop-k l = 64 - l.k

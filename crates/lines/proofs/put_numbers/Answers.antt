@@ -4,11 +4,11 @@ use native.Mathlib.Omega.{arith}
 use Rattle.lines.proofs.Turns.{numbers_start, numbers_turn, numbers_end}
 use Rattle.lines.proofs.put_numbers.Goals as goal
 
-pub loop-i-init : goal.loop-i-init
-loop-i-init c = (omega arith, omega arith, search numbers_start)
+pub loop-n-init : goal.loop-n-init
+loop-n-init c = (omega arith, search numbers_start)
 
-pub loop-i-preserved : goal.loop-i-preserved
-loop-i-preserved c = (omega arith, omega arith, search numbers_turn)
+pub loop-n-preserved : goal.loop-n-preserved
+loop-n-preserved c = (omega arith, search numbers_turn)
 
 pub returns : goal.returns
 returns c = search numbers_end

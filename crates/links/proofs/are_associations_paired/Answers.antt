@@ -1,17 +1,9 @@
-use Rattle.table.proofs.Loops.{all_none, all_more, all_fails, all_end}
-use Rattle.table.specs.View.{policy_of, associations_of}
+use Rattle.std.proofs.Common.{rules, tests, refl}
+use Rattle.model.specs.Sound.{association_pairs}
+use Rattle.table.specs.View.{policy_of, associations_of, association_at}
+use Rattle.table.proofs.Chains.{all_over}
 use Rattle.links.proofs.are_associations_paired.Goals as goal
-
-pub loop-i-init : goal.loop-i-init
-loop-i-init c = search all_none
-
-pub returns-then-not-is_association_paired : goal.returns-then-not-is_association_paired
-unfolding policy_of associations_of
-returns-then-not-is_association_paired c = search all_fails
-
-pub loop-i-preserved : goal.loop-i-preserved
-loop-i-preserved c = search all_more
 
 pub returns : goal.returns
 unfolding policy_of associations_of
-returns c = search all_end
+returns c = all_over (association_pairs (policy_of c.args.mem.now)) (association_at c.args.mem.now) _ _ c.all.result _ _ c.association_count-n.ensures refl c.all.ensures.ran (λ x b q k. search (rules, tests))

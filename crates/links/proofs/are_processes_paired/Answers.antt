@@ -1,14 +1,9 @@
-use Rattle.links.proofs.Numbered.{ids_none, ids_more, process_fails, processes_pass}
+use Rattle.std.proofs.Common.{rules, tests, refl}
+use Rattle.table.specs.View.{policy_of}
+use Rattle.table.proofs.Chains.{all_between}
+use Rattle.links.specs.Returning.{owner_fits}
+use Rattle.links.proofs.Numbered.{processes_told}
 use Rattle.links.proofs.are_processes_paired.Goals as goal
 
-pub loop-i-init : goal.loop-i-init
-loop-i-init c = search ids_none
-
-pub returns-then-not-is_owner_right : goal.returns-then-not-is_owner_right
-returns-then-not-is_owner_right c = search process_fails
-
-pub loop-i-preserved : goal.loop-i-preserved
-loop-i-preserved c = search ids_more
-
 pub returns : goal.returns
-returns c = search processes_pass
+returns c = processes_told c.args.mem.now (all_between (owner_fits (policy_of c.args.mem.now)) (λ i. i) _ _ c.all.result 1 256 255 refl refl c.all.ensures.ran (λ x b q k. search (rules, tests)))

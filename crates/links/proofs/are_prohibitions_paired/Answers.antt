@@ -1,17 +1,9 @@
-use Rattle.table.proofs.Loops.{all_none, all_more, all_fails, all_end}
-use Rattle.table.specs.View.{policy_of, prohibitions_of}
+use Rattle.std.proofs.Common.{rules, tests, refl}
+use Rattle.model.specs.Sound.{prohibition_pairs}
+use Rattle.table.specs.View.{policy_of, prohibitions_of, prohibition_at}
+use Rattle.table.proofs.Chains.{all_over}
 use Rattle.links.proofs.are_prohibitions_paired.Goals as goal
-
-pub loop-i-init : goal.loop-i-init
-loop-i-init c = search all_none
-
-pub returns-then-not-is_prohibition_paired : goal.returns-then-not-is_prohibition_paired
-unfolding policy_of prohibitions_of
-returns-then-not-is_prohibition_paired c = search all_fails
-
-pub loop-i-preserved : goal.loop-i-preserved
-loop-i-preserved c = search all_more
 
 pub returns : goal.returns
 unfolding policy_of prohibitions_of
-returns c = search all_end
+returns c = all_over (prohibition_pairs (policy_of c.args.mem.now)) (prohibition_at c.args.mem.now) _ _ c.all.result _ _ c.prohibition_count-n.ensures refl c.all.ensures.ran (λ x b q k. search (rules, tests))

@@ -1,5 +1,6 @@
+use Rattle.std.proofs.Common.{ap, not, ◌∙◌}
 use Rattle.links.proofs.Above.{above_acyclic}
 use Rattle.links.proofs.has_cycle.Goals as goal
 
-pub returns-then-are_above : goal.returns-then-are_above
-returns-then-are_above c = search above_acyclic
+pub returns-else-not-are_above : goal.returns-else-not-are_above
+returns-else-not-are_above c = ap not c.if-not-are_above.false ∙ above_acyclic _ _ c.are_above.ensures c.if-not-are_above.false

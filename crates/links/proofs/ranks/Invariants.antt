@@ -1,15 +1,8 @@
-use Prim.Native.Nat.{◌-◌}
 use Rattle.links.proofs.Lifting.{Risen, Sunk}
 use Rattle.links.proofs.ranks.Given as goal
 
 abbrev pub invariant-loop-i : goal.invariant-loop-i
 invariant-loop-i l = Risen l.mem l.i l.ranks
 
-abbrev pub decreases-loop-i : goal.decreases-loop-i
-decreases-loop-i l = l.n - l.i
-
 abbrev pub invariant-loop-i-2 : goal.invariant-loop-i-2
 invariant-loop-i-2 l = Sunk l.mem l.i l.ranks
-
-abbrev pub decreases-loop-i-2 : goal.decreases-loop-i-2
-decreases-loop-i-2 l = l.i

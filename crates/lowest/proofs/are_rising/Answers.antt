@@ -1,14 +1,11 @@
-use Rattle.lowest.proofs.InOrder.{risen_one, risen_more, risen_fails, risen_all}
+use Rattle.std.proofs.Common.{◌-◌, ◌∙◌, refl, rules, tests}
+use Rattle.std.proofs.lemmas.Iterator.{YieldsList-from_range}
+use Rattle.std.proofs.lemmas.Iterator.Search.{all_from_yields_List}
+use Rattle.lowest.specs.Named.{is_before}
+use Rattle.lowest.proofs.InOrder.{rise_where}
 use Rattle.lowest.proofs.are_rising.Goals as goal
 
-pub loop-i-init : goal.loop-i-init
-loop-i-init c = risen_one _
-
-pub returns-then-not-is_before : goal.returns-then-not-is_before
-returns-then-not-is_before c = search risen_fails
-
-pub loop-i-preserved : goal.loop-i-preserved
-loop-i-preserved c = search risen_more
-
 pub returns : goal.returns
-returns c = search risen_all
+returns c =
+    all_from_yields_List {v = λ x. x} (λ i. is_before c.args.mem.now (i - 1) i) _ _ c.all.result c.all.ensures.ran (YieldsList-from_range 1 _ _ refl refl) (λ x b q k. search (rules, tests))
+    ∙ rise_where _ _ c.association_count-n.ensures

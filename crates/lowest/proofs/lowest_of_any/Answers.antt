@@ -1,9 +1,8 @@
 use Rattle.lowest.proofs.Taken.{taken_start, taken_all}
-use native.Mathlib.Omega.{arith}
 use Rattle.lowest.proofs.lowest_of_any.Goals as goal
 
 pub loop-i-init : goal.loop-i-init
-loop-i-init c = (omega arith, taken_start _ _)
+loop-i-init c = taken_start _ _
 
 pub returns : goal.returns
 returns c = search taken_all

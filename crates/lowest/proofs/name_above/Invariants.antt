@@ -1,10 +1,6 @@
-use Prim.Native.Nat.{◌-◌, ◌≤◌}
 use Rattle.lowest.proofs.Setting.{SetTo}
 use Rattle.lowest.proofs.Above.{lowered_at}
 use Rattle.lowest.proofs.name_above.Given as goal
 
 abbrev pub invariant-loop-c : goal.invariant-loop-c
-invariant-loop-c l = (l.c ≤ 512) × SetTo (lowered_at l.mem l.i l.initial.names) l.c l.initial.names l.names
-
-abbrev pub decreases-loop-c : goal.decreases-loop-c
-decreases-loop-c l = 512 - l.c
+invariant-loop-c l = SetTo (lowered_at l.mem l.i l.initial.names) l.c l.initial.names l.names

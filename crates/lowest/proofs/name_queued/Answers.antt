@@ -1,9 +1,8 @@
-use Rattle.lowest.proofs.Queued.{queued_none, next_class, class_fits, place_fits, queued_more, queued_all}
-use native.Mathlib.Omega.{arith}
+use Rattle.lowest.proofs.Queued.{queued_none, next_class, class_fits, place_fits, queued_next, queued_all}
 use Rattle.lowest.proofs.name_queued.Goals as goal
 
-pub loop-k-init : goal.loop-k-init
-loop-k-init c = (omega arith, omega arith, search queued_none)
+pub loop-c-init : goal.loop-c-init
+loop-c-init c = search queued_none
 
 pub overflow_cast-c : goal.overflow_cast-c
 overflow_cast-c c = record { fits = search class_fits }
@@ -14,14 +13,8 @@ offset_bounds-names-c c = record { fits = search place_fits }
 pub bounds-names-c : goal.bounds-names-c
 bounds-names-c c = search next_class
 
-pub offset_bounds-names-c-in-loop-k : goal.offset_bounds-names-c-in-loop-k
-offset_bounds-names-c-in-loop-k c = record { fits = search place_fits }
-
-pub bounds-names-c-in-loop-k : goal.bounds-names-c-in-loop-k
-bounds-names-c-in-loop-k c = search next_class
-
-pub loop-k-preserved : goal.loop-k-preserved
-loop-k-preserved c = (omega arith, omega arith, search queued_more)
+pub loop-c-preserved : goal.loop-c-preserved
+loop-c-preserved c = search queued_next
 
 pub returns : goal.returns
 returns c = search queued_all

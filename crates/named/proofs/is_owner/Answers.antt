@@ -1,14 +1,9 @@
-use Rattle.named.proofs.Owned.{owner_none, owner_more, owner_found, owner_end}
+use Rattle.std.proofs.Common.{rules, tests, refl, eqb}
+use Rattle.model.specs.Policy.{user_of}
+use Rattle.table.specs.View.{policy_of}
+use Rattle.table.proofs.Chains.{any_between}
+use Rattle.named.proofs.Owned.{owner_among}
 use Rattle.named.proofs.is_owner.Goals as goal
 
-pub loop-i-init : goal.loop-i-init
-loop-i-init c = search owner_none
-
-pub returns-then-user_of-x : goal.returns-then-user_of-x
-returns-then-user_of-x c = search owner_found
-
-pub loop-i-preserved : goal.loop-i-preserved
-loop-i-preserved c = search owner_more
-
 pub returns : goal.returns
-returns c = search owner_end
+returns c = owner_among c.args.mem.now c.args.x c.requires.le_x (any_between (λ u. eqb u c.args.x) (user_of (policy_of c.args.mem.now)) _ _ c.any.result 1 256 255 refl refl c.any.ensures.ran (λ x b q k. search (rules, tests)))

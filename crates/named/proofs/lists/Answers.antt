@@ -1,14 +1,8 @@
-use Rattle.named.proofs.Mentions.{none_yet, listed_more, listed_found, listed_end}
+use Rattle.std.proofs.Common.{rules, tests, refl, eqb}
+use Rattle.table.proofs.Chains.{any_over}
+use Rattle.named.proofs.Mentions.{id_at, member_listed}
 use Rattle.named.proofs.lists.Goals as goal
 
-pub loop-k-init : goal.loop-k-init
-loop-k-init c = search none_yet
-
-pub returns-then-listed_at-x : goal.returns-then-listed_at-x
-returns-then-listed_at-x c = search listed_found
-
-pub loop-k-preserved : goal.loop-k-preserved
-loop-k-preserved c = search listed_more
-
 pub returns : goal.returns
-returns c = search listed_end
+unfolding id_at
+returns c = member_listed c.args.mem.now c.args.i c.inclusion_count_at.ensures c.exclusion_count_at.ensures c.args.x (any_over (λ y. eqb y c.args.x) (id_at c.args.mem.now c.args.i) _ _ c.any.result _ _ refl refl c.any.ensures.ran (λ x b q k. search (rules, tests)))

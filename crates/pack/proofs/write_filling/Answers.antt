@@ -3,7 +3,7 @@ use native.Mathlib.Omega.{arith}
 use Rattle.pack.proofs.write_filling.Goals as goal
 
 pub returns-then-left-eq0 : goal.returns-then-left-eq0
-returns-then-left-eq0 c = none_left _ _ (λ i. (c.slice_known-1.given i).fits) (omega arith)
+returns-then-left-eq0 c = none_left _ _ (λ i. (c.type_inv.out i).fits) (omega arith)
 
 pub returns : goal.returns
 returns c = search left_zero

@@ -1,14 +1,12 @@
-use Rattle.prohibition.proofs.Passed.{passed_none, attribute_more, attribute_fails, attribute_all}
+use Rattle.std.proofs.Common.{rules, tests, ◌∙◌}
+use Rattle.std.proofs.lemmas.Iterator.{YieldsList-from_slice}
+use Rattle.std.proofs.lemmas.Iterator.Search.{all_from_yields_List}
+use Rattle.model.specs.Policy.{is_attribute_kind, kind_of}
+use Rattle.table.specs.View.{policy_of}
+use Rattle.prohibition.specs.Lists.{are_attributes}
+use Rattle.prohibition.proofs.Passed.{all_listed}
 use Rattle.prohibition.proofs.are_attributes.Goals as goal
 
-pub loop-i-init : goal.loop-i-init
-loop-i-init c = passed_none _ _
-
-pub returns-then-not-is_attribute : goal.returns-then-not-is_attribute
-returns-then-not-is_attribute c = search attribute_fails
-
-pub loop-i-preserved : goal.loop-i-preserved
-loop-i-preserved c = search attribute_more
-
 pub returns : goal.returns
-returns c = search attribute_all
+unfolding are_attributes
+returns c = all_from_yields_List (λ x. is_attribute_kind (kind_of (policy_of c.args.mem.now) x)) _ _ _ c.all.ensures.ran (YieldsList-from_slice c.args.list.now cc) (λ x b q k. search (rules, tests)) ∙ all_listed (λ x. is_attribute_kind (kind_of (policy_of c.args.mem.now) x)) c.args.list.now

@@ -1,14 +1,9 @@
-use Rattle.prohibition.proofs.Passed.{passed_none, passed_more, passed_fails, passed_all}
+use Rattle.std.proofs.Common.{rules, tests, ◌∙◌}
+use Rattle.std.proofs.lemmas.Iterator.{YieldsList-from_slice}
+use Rattle.std.proofs.lemmas.Iterator.Search.{all_from_yields_List}
+use Rattle.model.specs.Policy.{is_element_id}
+use Rattle.prohibition.proofs.Passed.{all_listed}
 use Rattle.prohibition.proofs.are_ids.Goals as goal
 
-pub loop-i-init : goal.loop-i-init
-loop-i-init c = passed_none _ _
-
-pub returns-then-not-is_element_id : goal.returns-then-not-is_element_id
-returns-then-not-is_element_id c = search passed_fails
-
-pub loop-i-preserved : goal.loop-i-preserved
-loop-i-preserved c = search passed_more
-
 pub returns : goal.returns
-returns c = search passed_all
+returns c = all_from_yields_List is_element_id _ _ _ c.all.ensures.ran (YieldsList-from_slice c.args.list.now cc) (λ x b q k. search (rules, tests)) ∙ all_listed is_element_id c.args.list.now

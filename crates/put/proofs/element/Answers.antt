@@ -5,10 +5,10 @@ use Rattle.put.proofs.Turns.{element_none, element_room, element_put}
 use Rattle.put.proofs.element.Goals as goal
 
 pub returns-then-kind-eq0 : goal.returns-then-kind-eq0
-returns-then-kind-eq0 c = element_none _ _ c.kind_of-kind.result (search rules) (search rules) (search rules) _ _ (search rules) (λ i. (c.slice_known-1.given i).fits)
+returns-then-kind-eq0 c = element_none _ _ c.kind_of-kind.result (search rules) (search rules) (search rules) _ _ (search rules) (λ i. (c.type_inv.out i).fits)
 
-pub write-c-requires : goal.write-c-requires
-write-c-requires c = search (element_room, c.if-kind-eq0.false)
+pub write-requires : goal.write-requires
+write-requires c = search (element_room, c.if-kind-eq0.false)
 
 pub returns : goal.returns
 returns c = search (element_put, c.if-kind-eq0.false)

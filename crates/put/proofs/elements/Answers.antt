@@ -1,18 +1,17 @@
 -- `put::elements` meets its contract: before each turn the elements below x were put.
 -- Assumes nothing.
-use native.Mathlib.Omega.{arith}
 use borrow.Author.Rules.{rules}
 use Rattle.put.proofs.Turns.{elements_start, elements_room, elements_turn, elements_end}
 use Rattle.put.proofs.elements.Goals as goal
 
 pub loop-x-init : goal.loop-x-init
-loop-x-init c = (omega arith, elements_start _ (λ k. (c.slice_known-1.given k).fits) (search rules))
+loop-x-init c = elements_start _ (λ k. (c.type_inv.out k).fits) (search rules)
 
 pub element-p-requires-clause-reaches : goal.element-p-requires-clause-reaches
 element-p-requires-clause-reaches c = search elements_room
 
 pub loop-x-preserved : goal.loop-x-preserved
-loop-x-preserved c = (omega arith, search elements_turn)
+loop-x-preserved c = search elements_turn
 
 pub returns : goal.returns
 returns c = search elements_end

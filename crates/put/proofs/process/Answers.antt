@@ -5,10 +5,10 @@ use Rattle.put.proofs.Turns.{process_none, process_room, process_put}
 use Rattle.put.proofs.process.Goals as goal
 
 pub returns-then-user-eq0 : goal.returns-then-user-eq0
-returns-then-user-eq0 c = process_none _ _ c.user_of-user.result (search rules) (search rules) (search rules) _ _ (search rules) (λ i. (c.slice_known-1.given i).fits)
+returns-then-user-eq0 c = process_none _ _ c.user_of-user.result (search rules) (search rules) (search rules) _ _ (search rules) (λ i. (c.type_inv.out i).fits)
 
-pub write-c-requires : goal.write-c-requires
-write-c-requires c = search (process_room, c.if-user-eq0.false)
+pub write-requires : goal.write-requires
+write-requires c = search (process_room, c.if-user-eq0.false)
 
 pub returns : goal.returns
 returns c = search (process_put, c.if-user-eq0.false)

@@ -1,12 +1,8 @@
 -- `put::processes` meets its contract: before each turn the processes below i were put.
 -- Assumes nothing.
-use Prim.Native.Nat.{◌-◌, ◌≤◌}
 use Rattle.put.specs.Put.{process_bits_at}
 use Rattle.put.proofs.Filling.{Filling}
 use Rattle.put.proofs.processes.Given as goal
 
 abbrev pub invariant-loop-i : goal.invariant-loop-i
-invariant-loop-i l = (1 ≤ l.i) × Filling l.initial.out l.out l.at (process_bits_at l.mem) 1 256 l.i l.p
-
-abbrev pub decreases-loop-i : goal.decreases-loop-i
-decreases-loop-i l = 256 - l.i
+invariant-loop-i l = Filling l.initial.out l.out l.at (process_bits_at l.mem) 1 256 l.i l.p

@@ -1,17 +1,9 @@
-use Rattle.table.specs.View.{prohibitions_of, policy_of}
-use Rattle.table.proofs.Loops.{all_none, all_more, all_fails, all_end}
+use Rattle.std.proofs.Common.{rules, tests, refl}
+use Rattle.model.specs.Sound.{prohibition_fits}
+use Rattle.table.specs.View.{policy_of, prohibitions_of, prohibition_at}
+use Rattle.table.proofs.Chains.{all_over}
 use Rattle.ranges.proofs.are_prohibitions_in_range.Goals as goal
-
-pub loop-i-init : goal.loop-i-init
-loop-i-init c = search all_none
-
-pub returns-then-not-is_prohibition_in_range : goal.returns-then-not-is_prohibition_in_range
-unfolding policy_of prohibitions_of
-returns-then-not-is_prohibition_in_range c = search all_fails
-
-pub loop-i-preserved : goal.loop-i-preserved
-loop-i-preserved c = search all_more
 
 pub returns : goal.returns
 unfolding policy_of prohibitions_of
-returns c = search all_end
+returns c = all_over prohibition_fits (prohibition_at c.args.mem.now) _ _ c.all.result _ _ c.prohibition_count-n.ensures refl c.all.ensures.ran (λ x b q k. search (rules, tests))

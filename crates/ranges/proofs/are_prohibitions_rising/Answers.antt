@@ -1,14 +1,8 @@
-use Rattle.ranges.proofs.Ordered.{first_rises, one_more_rises, prohibitions_fall, prohibitions_rise}
+use Rattle.std.proofs.Common.{rules, tests, refl, Bool, ◌-◌}
+use Rattle.table.proofs.Chains.{all_between}
+use Rattle.ranges.proofs.Ordered.{is_next, prohibitions_rise}
 use Rattle.ranges.proofs.are_prohibitions_rising.Goals as goal
 
-pub loop-i-init : goal.loop-i-init
-loop-i-init c = search first_rises
-
-pub returns-then-not-is_before_next : goal.returns-then-not-is_before_next
-returns-then-not-is_before_next c = search prohibitions_fall
-
-pub loop-i-preserved : goal.loop-i-preserved
-loop-i-preserved c = search one_more_rises
-
 pub returns : goal.returns
-returns c = search prohibitions_rise
+unfolding is_next
+returns c = prohibitions_rise c.requires c.prohibition_count-n.ensures (all_between (λ (b : Bool). b) (λ i. is_next c.args.mem.now (i - 1)) _ _ c.all.result 1 _ _ refl refl c.all.ensures.ran (λ x b q k. search (rules, tests)))

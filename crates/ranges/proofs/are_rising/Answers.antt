@@ -1,4 +1,4 @@
-use Rattle.ranges.proofs.InOrder.{rise_start, next_room, next_small, rise_more, rise_fails, rise_all}
+use Rattle.ranges.proofs.InOrder.{rise_start, next_room, rise_more, rise_fails, rise_all}
 use Rattle.ranges.proofs.are_rising.Goals as goal
 
 pub loop-i-init : goal.loop-i-init
@@ -9,9 +9,6 @@ is_before_next-requires-clause-key_bound c = search next_room
 
 pub returns-then-not-is_before_next : goal.returns-then-not-is_before_next
 returns-then-not-is_before_next c = search rise_fails
-
-pub overflow_add-at : goal.overflow_add-at
-overflow_add-at c = search next_small
 
 pub loop-i-preserved : goal.loop-i-preserved
 loop-i-preserved c = search rise_more

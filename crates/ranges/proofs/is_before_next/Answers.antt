@@ -2,4 +2,4 @@ use Rattle.ranges.proofs.InOrder.{next_decides}
 use Rattle.ranges.proofs.is_before_next.Goals as goal
 
 pub returns : goal.returns
-returns c = search next_decides
+returns c = next_decides c.args.mem.now c.args.at c.args.stride c.args.key c.lt.ensures

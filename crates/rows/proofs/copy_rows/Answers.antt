@@ -7,4 +7,4 @@ use Rattle.rows.proofs.copy_rows.Goals as goal
 pub returns : goal.returns
 returns c =
     let e : c.loop-i.i ≡ c.args.n = omega arith in
-    c.loop-i.invariant.1 ∙ ap (filled c.args.rows.now c.args.numbers.now) e ∙ filled_over c.args.rows.now c.args.numbers.now c.args.n c.requires.0 c.requires.1
+    c.loop-i.invariant ∙ ap (filled c.args.rows.now c.args.numbers.now) e ∙ filled_over c.args.rows.now c.args.numbers.now c.args.n c.requires.0 c.requires.1

@@ -1,15 +1,10 @@
-use Rattle.rule.proofs.Restrictions.{restricted_none, restricted_more, restricted_found, restricted_end}
-use native.Mathlib.Omega.{arith}
+use Rattle.std.proofs.Common.{rules, tests, refl}
+use Rattle.model.specs.Rule.{restricts, restricted_by}
+use Rattle.table.specs.View.{policy_of, prohibitions_of, prohibition_at}
+use Rattle.table.proofs.Chains.{any_over}
+use Rattle.rule.specs.Sight.{seen}
 use Rattle.rule.proofs.is_restricted.Goals as goal
 
-pub loop-i-init : goal.loop-i-init
-loop-i-init c = (omega arith, search restricted_none)
-
-pub returns-then-is_restricting : goal.returns-then-is_restricting
-returns-then-is_restricting c = search restricted_found
-
-pub loop-i-preserved : goal.loop-i-preserved
-loop-i-preserved c = (omega arith, search restricted_more)
-
 pub returns : goal.returns
-returns c = search restricted_end
+unfolding restricted_by policy_of prohibitions_of
+returns g c = any_over (restricts (seen (g.S.Sight.rows c.args.rows.now) (g.S.Sight.indexed c.args.rows.now) c.args.q.by) (seen (g.S.Sight.rows c.args.rows.now) (g.S.Sight.indexed c.args.rows.now) c.args.q.over) (policy_of c.args.mem.now) c.args.q.process c.args.q.user c.args.q.right c.args.q.element) (prohibition_at c.args.mem.now) _ _ c.any.result _ _ c.prohibition_count-n.ensures refl c.any.ensures.ran (λ x b q k. search (rules, tests))

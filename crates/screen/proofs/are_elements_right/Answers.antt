@@ -3,8 +3,8 @@
 use Rattle.screen.proofs.Turns.{elements, elements_start, not_above, no_kind, element_passes, all_risen}
 use Rattle.screen.proofs.are_elements_right.Goals as goal
 
-pub loop-i-init : goal.loop-i-init
-loop-i-init c = search elements_start
+pub loop-init : goal.loop-init
+loop-init c = search elements_start
 
 pub returns-then-id-last : goal.returns-then-id-last
 returns-then-id-last c = search (not_above elements)
@@ -12,8 +12,8 @@ returns-then-id-last c = search (not_above elements)
 pub returns-then-not-is_kind : goal.returns-then-not-is_kind
 returns-then-not-is_kind c = search no_kind
 
-pub loop-i-preserved : goal.loop-i-preserved
-loop-i-preserved c = search element_passes
+pub loop-preserved : goal.loop-preserved
+loop-preserved c = search element_passes
 
 pub returns : goal.returns
 returns c = search (all_risen elements)

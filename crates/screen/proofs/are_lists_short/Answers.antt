@@ -3,8 +3,8 @@
 use Rattle.screen.proofs.Short.{short_start, many_inclusions, many_exclusions, both_few, all_short_lem}
 use Rattle.screen.proofs.are_lists_short.Goals as goal
 
-pub loop-i-init : goal.loop-i-init
-loop-i-init c = search short_start
+pub loop-init : goal.loop-init
+loop-init c = search short_start
 
 pub returns-then-inclusions-gt-MOST_LISTED : goal.returns-then-inclusions-gt-MOST_LISTED
 returns-then-inclusions-gt-MOST_LISTED c = search many_inclusions
@@ -12,8 +12,8 @@ returns-then-inclusions-gt-MOST_LISTED c = search many_inclusions
 pub returns-then-exclusions-gt-MOST_LISTED : goal.returns-then-exclusions-gt-MOST_LISTED
 returns-then-exclusions-gt-MOST_LISTED c = search many_exclusions
 
-pub loop-i-preserved : goal.loop-i-preserved
-loop-i-preserved c = search both_few
+pub loop-preserved : goal.loop-preserved
+loop-preserved c = search both_few
 
 pub returns : goal.returns
 returns c = search all_short_lem

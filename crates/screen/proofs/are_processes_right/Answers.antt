@@ -3,8 +3,8 @@
 use Rattle.screen.proofs.Turns.{processes, processes_start, not_above, no_user, process_passes, all_risen}
 use Rattle.screen.proofs.are_processes_right.Goals as goal
 
-pub loop-i-init : goal.loop-i-init
-loop-i-init c = search processes_start
+pub loop-init : goal.loop-init
+loop-init c = search processes_start
 
 pub returns-then-id-last : goal.returns-then-id-last
 returns-then-id-last c = search (not_above processes)
@@ -12,8 +12,8 @@ returns-then-id-last c = search (not_above processes)
 pub returns-then-user-lt1 : goal.returns-then-user-lt1
 returns-then-user-lt1 c = search no_user
 
-pub loop-i-preserved : goal.loop-i-preserved
-loop-i-preserved c = search process_passes
+pub loop-preserved : goal.loop-preserved
+loop-preserved c = search process_passes
 
 pub returns : goal.returns
 returns c = search (all_risen processes)

@@ -7,17 +7,17 @@ use Rattle.unpack.proofs.unpack.Goals as goal
 pub head-h-requires : goal.head-h-requires
 head-h-requires c = search head_reached
 
-pub unpack_elements-requires-clause-reaches : goal.unpack_elements-requires-clause-reaches
-unpack_elements-requires-clause-reaches c = search elements_reached
+pub unpack_by_id-requires-clause-reaches : goal.unpack_by_id-requires-clause-reaches
+unpack_by_id-requires-clause-reaches c = search elements_reached
 
-pub unpack_elements-requires-clause-mem_len : goal.unpack_elements-requires-clause-mem_len
-unpack_elements-requires-clause-mem_len c = search empty_size
+pub unpack_by_id-requires-clause-room : goal.unpack_by_id-requires-clause-room
+unpack_by_id-requires-clause-room c = omega (arith, empty_size c.requires.mem_value)
 
-pub unpack_processes-requires-clause-reaches : goal.unpack_processes-requires-clause-reaches
-unpack_processes-requires-clause-reaches c = search processes_reached
+pub unpack_by_id-requires-2-clause-reaches : goal.unpack_by_id-requires-2-clause-reaches
+unpack_by_id-requires-2-clause-reaches c = search processes_reached
 
-pub unpack_processes-requires-clause-mem_len : goal.unpack_processes-requires-clause-mem_len
-unpack_processes-requires-clause-mem_len c = omega (arith, empty_size)
+pub unpack_by_id-requires-2-clause-room : goal.unpack_by_id-requires-2-clause-room
+unpack_by_id-requires-2-clause-room c = omega (arith, empty_size c.requires.mem_value)
 
 pub unpack_relations-requires-clause-assignments_bound : goal.unpack_relations-requires-clause-assignments_bound
 unpack_relations-requires-clause-assignments_bound c = search few_assignments

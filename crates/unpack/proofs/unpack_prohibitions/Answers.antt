@@ -1,7 +1,8 @@
 -- `unpack::unpack_prohibitions` meets its contract. Invariant: the first i prohibitions are laid, and those left lie within the bits and have
 -- short lists. Assumes nothing.
 use native.Mathlib.Omega.{arith}
-use lib.ListN.{length-set}
+use Prim.Native.Nat.{◌+◌, ◌*◌}
+use Rattle.group.proofs.Moves.{put_laid}
 use Rattle.unpack.proofs.Prohibitions.{passing_none, next_reaches, next_short, passing_more, passing_all}
 use Rattle.unpack.proofs.unpack_prohibitions.Goals as goal
 
@@ -15,10 +16,9 @@ pub prohibition_at-rec-requires-clause-s_value : goal.prohibition_at-rec-require
 prohibition_at-rec-requires-clause-s_value c = search next_short
 
 pub loop-i-preserved : goal.loop-i-preserved
-loop-i-preserved c = search passing_more
-
-pub shape_of-mem : goal.shape_of-mem
-shape_of-mem c = simp length-set (omega arith)
+loop-i-preserved c =
+    let m = put_laid (5776 + 11 * c.loop-i.i) (5776 + 11 * c.loop-i.i + 11) c.prohibition_at-rec.result c.copy_from_slice.new.self c.loop-i.mem c.copy_from_slice.ensures.after (omega arith) in
+    passing_more c.loop-i.invariant (omega arith) c.prohibition_at-rec.ensures m c.listed.ensures
 
 pub returns : goal.returns
 returns c = search passing_all
