@@ -19,6 +19,7 @@ pub struct Bits {
 }
 
 // The t bits of x above its k low ones.
+#[tactic(auto, using(crate::proofs::Turns::masked))]
 fn chunk(x: u32, k: u32, t: u32) -> u32
     requires { (k < 32) × (t < 32) }
     ensures { result ≡ x / 2 ^ k % 2 ^ t }
@@ -35,6 +36,7 @@ fn join(x: u32, c: u32, t: u32) -> u32
 }
 
 // The byte b with c in the place of its t bits above its k low ones.
+#[tactic(auto, using(crate::proofs::Turns::upper_fits, crate::proofs::Turns::patched_fits, crate::proofs::Turns::patched_is))]
 fn patch(b: u8, k: u32, t: u32, c: u32) -> u8
     requires { (t + k ≤ 8) × (c < 2 ^ t) }
     ensures { result ≡ (b / 2 ^ (t + k) * 2 ^ t + c) * 2 ^ k + b % 2 ^ k }

@@ -13,6 +13,7 @@ ghost use Rattle.climb.specs.Answers.{told};
 use answer::Refusal;
 
 // Marks y and appends it to the queue, unless it is marked already. Returns how many are queued then.
+#[tactic(auto, using(crate::proofs::Queue::grow_none, crate::proofs::Queue::room))]
 fn offer(y: u32, seen: &mut [u8; 512], queue: &mut [u32; 512], tail: usize) -> usize
     requires y_bound { y < 512 }
     requires listed { Listed seen.old queue.old tail }
@@ -73,6 +74,7 @@ fn climb(
 }
 
 // Marks all that x is within besides what is marked already; what was marked is not climbed from again. Returns how many are queued then.
+#[tactic(auto, using(crate::proofs::Queue::kept_then))]
 pub fn climb_on(
     mem: &[u32],
     x: u32,
@@ -151,6 +153,7 @@ fn by_marks(mem: &[u32], x: u32, y: u32) -> bool
 }
 
 // Plain containment: whether x is within y.
+#[tactic(auto, using(crate::proofs::Answered::told_no_table, crate::proofs::Answered::told_no_id, table::proofs::Asked::tested, crate::proofs::Answered::told_absent, table::proofs::Asked::first_small, table::proofs::Asked::second_small))]
 pub fn contained(mem: &[u32], x: u32, y: u32) -> Result<bool, Refusal>
     ensures { told result ≡ contains (memory mem.now) x y }
 {

@@ -4,13 +4,15 @@
 #![tactic(auto)]
 
 ghost use Rattle.model.specs.Command.{create_class, create_element, assign, deassign, delete_element, create_association, delete_association, create_prohibition, delete_prohibition, start_process, end_process};
-ghost use Rattle.store.specs.ProhibitionWords.{prohibition};
+ghost use Rattle.store.specs.Given.{association_of, prohibition_of};
 ghost use Rattle.command.specs.Commanded.{Commanded};
 
 use answer::Refusal;
 use kinds::CLASS;
+pub use store::{Association, Prohibition};
 
 // Creates a policy class.
+#[tactic(auto, using(crate::proofs::Calls::call_table, crate::proofs::Calls::class_id, crate::proofs::Calls::class_table, crate::proofs::Calls::call_index))]
 pub fn create_class(mem: &mut [u32], idx: &mut [u8], id: u32) -> Result<(), Refusal>
     ensures { Commanded mem.old idx.old (create_class id) result mem.new idx.new }
 {
@@ -21,6 +23,7 @@ pub fn create_class(mem: &mut [u32], idx: &mut [u8], id: u32) -> Result<(), Refu
 }
 
 // Creates an element with its first assignment.
+#[tactic(auto, using(crate::proofs::Calls::call_table, crate::proofs::Calls::element_id, crate::proofs::Calls::element_kind, crate::proofs::Calls::element_table, crate::proofs::Calls::element_container, crate::proofs::Calls::element_unassigned, crate::proofs::Calls::element_made, crate::proofs::Calls::call_index))]
 pub fn create_element(
     mem: &mut [u32],
     idx: &mut [u8],
@@ -38,6 +41,7 @@ pub fn create_element(
 }
 
 // Assigns the child to the container.
+#[tactic(auto, using(crate::proofs::Calls::call_table, crate::proofs::Calls::assign_child, crate::proofs::Calls::assign_container, crate::proofs::Calls::assign_unassigned, crate::proofs::Calls::assign_table, crate::proofs::Calls::call_index))]
 pub fn assign(mem: &mut [u32], idx: &mut [u8], child: u32, container: u32) -> Result<(), Refusal>
     ensures { Commanded mem.old idx.old (assign child container) result mem.new idx.new }
 {
@@ -48,6 +52,7 @@ pub fn assign(mem: &mut [u32], idx: &mut [u8], child: u32, container: u32) -> Re
 }
 
 // Takes the child's assignment to the container away.
+#[tactic(auto, using(crate::proofs::Calls::call_table, crate::proofs::Calls::deassign_child, crate::proofs::Calls::deassign_container, crate::proofs::Calls::deassign_table, crate::proofs::Calls::call_index))]
 pub fn deassign(mem: &mut [u32], idx: &mut [u8], child: u32, container: u32) -> Result<(), Refusal>
     ensures { Commanded mem.old idx.old (deassign child container) result mem.new idx.new }
 {
@@ -58,6 +63,7 @@ pub fn deassign(mem: &mut [u32], idx: &mut [u8], child: u32, container: u32) -> 
 }
 
 // Deletes an element with its own assignments.
+#[tactic(auto, using(crate::proofs::Calls::call_table, crate::proofs::Calls::delete_id, crate::proofs::Calls::delete_table, crate::proofs::Calls::delete_made, crate::proofs::Calls::call_index))]
 pub fn delete_element(mem: &mut [u32], idx: &mut [u8], id: u32) -> Result<(), Refusal>
     ensures { Commanded mem.old idx.old (delete_element id) result mem.new idx.new }
 {
@@ -69,90 +75,47 @@ pub fn delete_element(mem: &mut [u32], idx: &mut [u8], id: u32) -> Result<(), Re
 }
 
 // Creates an association.
-pub fn create_association(
-    mem: &mut [u32],
-    idx: &mut [u8],
-    attribute: u32,
-    target: u32,
-    rights: u32,
-) -> Result<(), Refusal>
-    ensures { Commanded mem.old idx.old (create_association (record { attribute = attribute; target = target; rights = rights })) result mem.new idx.new }
+#[tactic(auto, using(crate::proofs::Calls::call_table, crate::proofs::Calls::association_attribute, crate::proofs::Calls::association_target))]
+pub fn create_association(mem: &mut [u32], idx: &mut [u8], a: Association) -> Result<(), Refusal>
+    ensures { Commanded mem.old idx.old (create_association (association_of a)) result mem.new idx.new }
 {
-    refusals::create_association(mem, idx.len(), attribute, target, rights)?;
-    store::add_association(mem, attribute, target, rights)?;
+    refusals::create_association(mem, idx.len(), a)?;
+    store::add_association(mem, a)?;
     Ok(())
 }
 
 // Deletes an association, by its exact triple.
-pub fn delete_association(
-    mem: &mut [u32],
-    idx: &mut [u8],
-    attribute: u32,
-    target: u32,
-    rights: u32,
-) -> Result<(), Refusal>
-    ensures { Commanded mem.old idx.old (delete_association (record { attribute = attribute; target = target; rights = rights })) result mem.new idx.new }
+#[tactic(auto, using(crate::proofs::Calls::call_table, crate::proofs::Calls::gone_attribute, crate::proofs::Calls::gone_target))]
+pub fn delete_association(mem: &mut [u32], idx: &mut [u8], a: Association) -> Result<(), Refusal>
+    ensures { Commanded mem.old idx.old (delete_association (association_of a)) result mem.new idx.new }
 {
-    refusals::delete_association(mem, idx.len(), attribute, target, rights)?;
-    store::take_association(mem, attribute, target, rights);
+    refusals::delete_association(mem, idx.len(), a)?;
+    store::take_association(mem, a);
     Ok(())
 }
 
 // Creates a prohibition. Its lists may be of any length.
-pub fn create_prohibition(
-    mem: &mut [u32],
-    idx: &mut [u8],
-    sort: u32,
-    subject: u32,
-    form: u32,
-    rights: u32,
-    inclusion: &[u32],
-    exclusion: &[u32],
-) -> Result<(), Refusal>
-    ensures { Commanded mem.old idx.old (create_prohibition (prohibition sort subject form rights inclusion.now exclusion.now)) result mem.new idx.new }
+#[tactic(auto, using(crate::proofs::Calls::call_table, crate::proofs::Calls::prohibition_storable))]
+pub fn create_prohibition(mem: &mut [u32], idx: &mut [u8], b: Prohibition) -> Result<(), Refusal>
+    ensures { Commanded mem.old idx.old (create_prohibition (prohibition_of b.entry)) result mem.new idx.new }
 {
-    refusals::create_prohibition(
-        mem,
-        idx.len(),
-        sort,
-        subject,
-        form,
-        rights,
-        inclusion,
-        exclusion,
-    )?;
-    store::add_prohibition(mem, sort, subject, form, rights, inclusion, exclusion)?;
+    refusals::create_prohibition(mem, idx.len(), b)?;
+    store::add_prohibition(mem, b)?;
     Ok(())
 }
 
 // Deletes a prohibition, by its exact fields.
-pub fn delete_prohibition(
-    mem: &mut [u32],
-    idx: &mut [u8],
-    sort: u32,
-    subject: u32,
-    form: u32,
-    rights: u32,
-    inclusion: &[u32],
-    exclusion: &[u32],
-) -> Result<(), Refusal>
-    ensures { Commanded mem.old idx.old (delete_prohibition (prohibition sort subject form rights inclusion.now exclusion.now)) result mem.new idx.new }
+#[tactic(auto, using(crate::proofs::Calls::call_table, crate::proofs::Calls::gone_storable))]
+pub fn delete_prohibition(mem: &mut [u32], idx: &mut [u8], b: Prohibition) -> Result<(), Refusal>
+    ensures { Commanded mem.old idx.old (delete_prohibition (prohibition_of b.entry)) result mem.new idx.new }
 {
-    refusals::delete_prohibition(
-        mem,
-        idx.len(),
-        sort,
-        subject,
-        form,
-        rights,
-        inclusion,
-        exclusion,
-    )?;
-    store::take_prohibition(mem, sort, subject, form, rights, inclusion, exclusion);
+    refusals::delete_prohibition(mem, idx.len(), b)?;
+    store::take_prohibition(mem, b);
     Ok(())
 }
 
 // Starts a process of a user.
+#[tactic(auto, using(crate::proofs::Calls::call_table, crate::proofs::Calls::process_id, crate::proofs::Calls::process_user))]
 pub fn start_process(mem: &mut [u32], idx: &mut [u8], id: u32, user: u32) -> Result<(), Refusal>
     ensures { Commanded mem.old idx.old (start_process id user) result mem.new idx.new }
 {
@@ -162,6 +125,7 @@ pub fn start_process(mem: &mut [u32], idx: &mut [u8], id: u32, user: u32) -> Res
 }
 
 // Ends a process.
+#[tactic(auto, using(crate::proofs::Calls::call_table, crate::proofs::Calls::ended_id))]
 pub fn end_process(mem: &mut [u32], idx: &mut [u8], id: u32) -> Result<(), Refusal>
     ensures { Commanded mem.old idx.old (end_process id) result mem.new idx.new }
 {

@@ -47,17 +47,11 @@ pub fn asking<S: Sight>(q: Request, user: u32, rows: &S, e: u32, k: u32) -> Aski
 pub fn with_right(q: Asking, r: u32) -> Asking
     ensures { result ≡ with_right q r }
 {
-    Asking {
-        process: q.process,
-        user: q.user,
-        element: q.element,
-        right: r,
-        by: q.by,
-        over: q.over,
-    }
+    Asking { right: r, ..q }
 }
 
 // Whether right r, if it is in the set, is held over the element and not restricted.
+#[tactic(auto, using(crate::proofs::Allowed::not_asked, crate::proofs::Allowed::right_with_right, crate::proofs::Allowed::rows_with_right, crate::proofs::Allowed::is_asked))]
 fn is_allowed<S: Lacking>(mem: &[u32], rows: &S, q: Asking, rights: u32, r: u32) -> bool
     requires table { Table mem.now }
     requires rows { Rows mem.now (S.rows rows.now) (S.indexed rows.now) q }
@@ -71,6 +65,7 @@ fn is_allowed<S: Lacking>(mem: &[u32], rows: &S, q: Asking, rights: u32, r: u32)
 }
 
 // Whether each right of the set is held over the element and not restricted. The rights are asked from 0 up until none is left: most sets have one.
+#[tactic(auto, using(crate::proofs::Allowed::allowed_none, crate::proofs::Left::left_whole, crate::proofs::Left::left_near, crate::proofs::Allowed::allowed_all))]
 fn are_allowed<S: Lacking>(mem: &[u32], rows: &S, q: Asking, rights: u32) -> bool
     requires table { Table mem.now }
     requires rows { Rows mem.now (S.rows rows.now) (S.indexed rows.now) q }
@@ -90,6 +85,7 @@ fn are_allowed<S: Lacking>(mem: &[u32], rows: &S, q: Asking, rights: u32) -> boo
 }
 
 // Whether an alternative is satisfied: for each argument each right in that argument's set.
+#[tactic(auto, using(crate::proofs::Sights::rows_first, crate::proofs::Sights::rows_second, crate::proofs::Sights::rows_third))]
 fn is_satisfied<S: Lacking>(mem: &[u32], rows: &S, q: Request, user: u32, sets: [u32; 3]) -> bool
     requires table { Table mem.now }
     requires all_rows { AllRows mem.now (S.rows rows.now) (S.indexed rows.now) q user }
@@ -133,6 +129,7 @@ pub fn choose<S: Lacking>(
 }
 
 // Climbs from the user and from each argument: four rows of bits.
+#[tactic(auto, using(climb::proofs::Queue::blank_zeros))]
 pub fn climb_rows(mem: &[u32], q: Request, user: u32) -> [u8; 256]
     requires table { Table mem.now }
     requires accepted { Accepted mem.now q }
@@ -150,6 +147,7 @@ pub fn climb_rows(mem: &[u32], q: Request, user: u32) -> [u8; 256]
 }
 
 // The decision on a request that is not refused, by climbing.
+#[tactic(auto, using(crate::proofs::Sights::user_known, crate::proofs::Answered::told_by_climb))]
 fn by_climb(mem: &[u32], q: Request) -> Decision
     requires table { Table mem.now }
     requires accepted { Accepted mem.now q }
@@ -167,6 +165,7 @@ fn by_climb(mem: &[u32], q: Request) -> Decision
 }
 
 // The decision on a request that is not refused, by the bits of an index.
+#[tactic(auto, using(crate::proofs::Answered::told_by_index))]
 fn by_index(mem: &[u32], idx: &[u8], q: Request) -> Decision
     requires table { Table mem.now }
     requires accepted { Accepted mem.now q }
@@ -184,6 +183,7 @@ fn by_index(mem: &[u32], idx: &[u8], q: Request) -> Decision
 }
 
 // The plain decision: containment by chains of assignments.
+#[tactic(auto, using(crate::proofs::Answered::told_no_table, table::proofs::Asked::tested, crate::proofs::Answered::told_verdict, std::proofs::lemmas::Result::err_from_is_err_and, crate::proofs::Answered::told_refused))]
 pub fn decide(mem: &[u32], q: Request) -> Result<Decision, Refusal>
     ensures { told result ≡ deciding (memory mem.now) (request_of q) }
 {
@@ -195,6 +195,7 @@ pub fn decide(mem: &[u32], q: Request) -> Result<Decision, Refusal>
 }
 
 // The indexed decision: containment by the bits of the lent index alone.
+#[tactic(auto, using(crate::proofs::Answered::indexed_no_table, crate::proofs::Answered::indexed_bad_index, table::proofs::Asked::tested, crate::proofs::Answered::indexed_verdict, std::proofs::lemmas::Result::err_from_is_err_and, crate::proofs::Answered::indexed_refused))]
 pub fn decide_indexed(mem: &[u32], idx: &[u8], q: Request) -> Result<Decision, Refusal>
     ensures { told result ≡ decide_indexed (memory mem.now) idx.now (request_of q) }
 {

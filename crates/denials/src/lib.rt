@@ -17,6 +17,7 @@ use request::Request;
 use rule::{Asking, Climbed};
 
 // Whether prohibition i has the sort and restricts.
+#[tactic(auto, using(crate::proofs::Subjects::through_restricts, crate::proofs::Subjects::through_other))]
 fn restricts_through(mem: &[u32], rows: &[u8], q: Asking, sort: u32, i: usize) -> bool
     requires table { Table mem.now }
     requires rows { Rows mem.now rows.now false q }
@@ -94,6 +95,7 @@ fn why_in(mem: &[u32], rows: &[u8], q: Asking, rights: u32, r: u32) -> [u32; 2]
 
 // The row that says why the first right of a set that is not permitted is not, over the argument at position k; zeros where each is permitted.
 // The rights are asked from 0 up until none is left.
+#[tactic(auto, using(decide::proofs::Left::left_whole, crate::proofs::Rights::permitted_none, decide::proofs::Left::left_near, decide::proofs::Left::left_next, crate::proofs::Rights::permitted_more, crate::proofs::Rights::none_fails))]
 fn failing_row(
     mem: &[u32],
     rows: &[u8],

@@ -87,6 +87,7 @@ fn put_denial(mem: &[u32], q: Request, out: &mut [u8]) -> usize
 }
 
 // Puts the line of a verdict on a request; only a deny is explained.
+#[tactic(auto, using(crate::proofs::Answering::denied_verdict))]
 fn put_verdict(mem: &[u32], q: Request, verdict: Decision, out: &mut [u8]) -> usize
     requires table { Table mem.now }
     requires decided { told_decided (Ok verdict) ≡ decide (memory mem.now) (request_of q) }
@@ -157,6 +158,7 @@ fn request_count(s: &[u8]) -> usize
 }
 
 // Puts the line of one request, or of one that is cut short.
+#[tactic(auto, using(crate::proofs::Requests::cut_line, lines::proofs::Texts::typed_as))]
 fn put_one(mem: &[u32], s: &[u8], out: &mut [u8]) -> usize
     requires table { Table mem.now }
     requires some { 0 < length s.now }
@@ -172,6 +174,7 @@ fn put_one(mem: &[u32], s: &[u8], out: &mut [u8]) -> usize
 }
 
 // Puts the lines of the requests, one behind the other.
+#[tactic(auto, using(crate::proofs::Lined::lined_turn))]
 fn put_lines(mem: &[u32], s: &[u8], out: &mut [u8]) -> usize
     requires table { Table mem.now }
     requires s_in_bounds { line_room * request_count s.now ≤ length out.old }
@@ -185,6 +188,7 @@ fn put_lines(mem: &[u32], s: &[u8], out: &mut [u8]) -> usize
 }
 
 // Answers all requests among the bytes: prints their lines, one behind the other, in front of the lent bytes, which must be at least 64 for each request.
+#[tactic(auto, using(crate::proofs::Answering::all_no_table, crate::proofs::Answering::all_no_room, table::proofs::Asked::tested, crate::proofs::Answering::room_enough))]
 pub fn answer_all(mem: &[u32], s: &[u8], out: &mut [u8]) -> Result<usize, Refusal>
     ensures { allows.answer_all mem.now s.now out.old result out.new }
 {
@@ -216,24 +220,17 @@ fn put_counts(mem: &[u32], out: &mut [u8]) -> usize
     )
 }
 
-// A byte as a number.
-fn wide(b: u8) -> usize
-    ensures value { result ≡ b }
-    ensures upper_bound { result < 256 }
-{
-    b as usize
-}
-
 // The length of the image, as its two bytes say.
 fn image_length(s: &[u8]) -> usize
     requires { 2 ≤ length s.now }
     ensures value { result ≡ image_length s.now }
     ensures upper_bound { result < 65536 }
 {
-    256 * wide(s[0]) + wide(s[1])
+    usize::from(u16::from_be_bytes([s[0], s[1]]))
 }
 
 // How many bytes the length and the image are, as the first bytes of the input say: two where the length is not there.
+#[tactic(auto, using(crate::proofs::Reading::no_length, crate::proofs::Reading::by_length))]
 pub fn wanted(s: &[u8]) -> usize
     ensures wanted { allows.wanted s.now result }
     ensures in_range { (2 ≤ result) × (result ≤ 65537) }

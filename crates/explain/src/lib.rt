@@ -25,6 +25,7 @@ pub enum Explanation {
 }
 
 // Explains a grant: 10 and nothing written where the rows are too few.
+#[tactic(auto, using(crate::proofs::Granted::grant_fits, crate::proofs::Granted::grant_filled))]
 fn explain_grant(
     mem: &[u32],
     rows: &[u8],
@@ -51,6 +52,7 @@ fn explain_grant(
 }
 
 // Explains a deny: a row for each alternative; 10 and nothing written where the rows are too few.
+#[tactic(auto, using(crate::proofs::Denied::one_refused, crate::proofs::Denied::first_fails, crate::proofs::Denied::one_filled, crate::proofs::Denied::two_refused, crate::proofs::Denied::second_fails, crate::proofs::Denied::two_filled))]
 fn explain_deny(
     mem: &[u32],
     rows: &[u8],
@@ -84,6 +86,7 @@ fn explain_deny(
 }
 
 // Explains a request that is not refused.
+#[tactic(auto, using(decide::proofs::Sights::user_known, crate::proofs::Answered::decided_first, crate::proofs::Answered::first_read, crate::proofs::Answered::second_read, crate::proofs::Answered::decided_deny))]
 fn explain_accepted(mem: &[u32], q: Request, out: &mut [[u32; 8]]) -> Result<Explanation, Refusal>
     requires table { Table mem.now }
     requires accepted { Accepted mem.now q }
@@ -105,6 +108,7 @@ fn explain_accepted(mem: &[u32], q: Request, out: &mut [[u32; 8]]) -> Result<Exp
 }
 
 // The explanation, with rows of eight numbers. Rows beyond the count keep their contents.
+#[tactic(auto, using(crate::proofs::Answered::explained_no_table, table::proofs::Asked::tested, std::proofs::lemmas::Result::err_from_is_err_and, crate::proofs::Answered::explained_refusal))]
 pub fn explain_numbers(
     mem: &[u32],
     q: Request,

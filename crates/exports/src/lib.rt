@@ -16,8 +16,10 @@ use answer::Refusal;
 use decide::Decision;
 use explain::Explanation;
 use request::Request;
+use store::{Association, Prohibition};
 
 // The refusal number, 0 where there is none.
+#[tactic(auto, using(crate::proofs::Cases::done_number))]
 fn number(r: Result<(), Refusal>) -> u32
     ensures { result ≡ code (told_done r r) }
 {
@@ -36,6 +38,7 @@ fn refusal_code(refusal: Refusal) -> u32
 }
 
 // The alternative that is granted, 0 for a deny.
+#[tactic(auto, using(crate::proofs::Cases::grant_code, crate::proofs::Cases::deny_code))]
 fn verdict_code(decision: Decision) -> u32
     ensures { result ≡ verdict_code (verdict_of decision) }
 {
@@ -69,10 +72,11 @@ fn yes_code(r: Result<bool, Refusal>) -> u32
 fn pair(high: u32, low: u32) -> u64
     ensures { result ≡ high * 4294967296 + low }
 {
-    high as u64 * 4294967296 + low as u64
+    u64::from(high) * 4294967296 + u64::from(low)
 }
 
 // The length, or the refusal number in the high half.
+#[tactic(auto, using(crate::proofs::Cases::length_code))]
 fn save_code(r: Result<usize, Refusal>) -> u64
     ensures { result ≡ save_code (saved r) }
 {
@@ -280,7 +284,12 @@ pub extern "C" fn qd_create_association(
 ) -> u32
     ensures { allows.command table.old index.old (create_association (record { attribute = attribute; target = target; rights = rights })) result table.new index.new }
 {
-    number(policy::create_association(table, index, attribute, target, rights))
+    let a = Association {
+        attribute,
+        target,
+        rights,
+    };
+    number(policy::create_association(table, index, a))
 }
 
 // Deletes an association, by its exact triple.
@@ -294,7 +303,12 @@ pub extern "C" fn qd_delete_association(
 ) -> u32
     ensures { allows.command table.old index.old (delete_association (record { attribute = attribute; target = target; rights = rights })) result table.new index.new }
 {
-    number(policy::delete_association(table, index, attribute, target, rights))
+    let a = Association {
+        attribute,
+        target,
+        rights,
+    };
+    number(policy::delete_association(table, index, a))
 }
 
 // Creates a prohibition. Its lists may be of any length.
@@ -311,9 +325,15 @@ pub extern "C" fn qd_create_prohibition(
 ) -> u32
     ensures { allows.command table.old index.old (create_prohibition (prohibition sort subject form rights inclusion.now exclusion.now)) result table.new index.new }
 {
-    number(policy::create_prohibition(
-        table, index, sort, subject, form, rights, inclusion, exclusion,
-    ))
+    let b = Prohibition {
+        sort,
+        subject,
+        form,
+        rights,
+        inclusion,
+        exclusion,
+    };
+    number(policy::create_prohibition(table, index, b))
 }
 
 // Deletes a prohibition, by its exact fields.
@@ -330,9 +350,15 @@ pub extern "C" fn qd_delete_prohibition(
 ) -> u32
     ensures { allows.command table.old index.old (delete_prohibition (prohibition sort subject form rights inclusion.now exclusion.now)) result table.new index.new }
 {
-    number(policy::delete_prohibition(
-        table, index, sort, subject, form, rights, inclusion, exclusion,
-    ))
+    let b = Prohibition {
+        sort,
+        subject,
+        form,
+        rights,
+        inclusion,
+        exclusion,
+    };
+    number(policy::delete_prohibition(table, index, b))
 }
 
 // Starts a process of a user.

@@ -17,6 +17,7 @@ use request::Request;
 use rule::{Asking, Climbed};
 
 // How many classes the element is within.
+#[tactic(auto, using(crate::proofs::Classes::count_start, crate::proofs::Classes::count_more, crate::proofs::Classes::count_end))]
 fn count_classes(mem: &[u32], rows: &[u8], q: Asking) -> usize
     requires table { Table mem.now }
     requires rows { Rows mem.now rows.now false q }
@@ -78,6 +79,7 @@ pub fn count_rows(mem: &[u32], rows: &[u8], q: Request, user: u32, sets: [u32; 3
 }
 
 // The row of a right over the argument at position k in class c, whose lowest association is named.
+#[tactic(auto, using(crate::proofs::Written::named_none, crate::proofs::Written::named_some))]
 fn class_row(mem: &[u32], name: u32, q: Asking, alternative: u32, k: u32, c: u32) -> [u32; 8]
     requires table { Table mem.now }
     requires name_bound { name ≤ association_count mem.now }
@@ -100,6 +102,7 @@ fn class_row(mem: &[u32], name: u32, q: Asking, alternative: u32, k: u32, c: u32
 }
 
 // Writes the rows of a right. Returns the next place.
+#[tactic(auto, using(crate::proofs::Classes::name_few, crate::proofs::Classes::write_room))]
 fn put_right(
     mem: &[u32],
     rows: &[u8],
@@ -127,6 +130,7 @@ fn put_right(
 }
 
 // Writes the rows of right r, if it is in the set. Returns the next place.
+#[tactic(auto, using(crate::proofs::Written::rows_right, crate::proofs::Written::right_small))]
 fn put_if(
     mem: &[u32],
     rows: &[u8],
@@ -151,6 +155,7 @@ fn put_if(
 }
 
 // Writes the rows of the rights of a set. Returns the next place.
+#[tactic(auto, using(decide::proofs::Left::left_near))]
 fn put_set(
     mem: &[u32],
     rows: &[u8],
@@ -209,6 +214,7 @@ fn put_argument(
 }
 
 // Writes the rows of an alternative, from the first place on. Returns how many there are.
+#[tactic(auto, using(crate::proofs::Written::grant_room, crate::proofs::Written::grant_room_second, crate::proofs::Written::grant_room_third))]
 pub fn put_rows(
     mem: &[u32],
     rows: &[u8],

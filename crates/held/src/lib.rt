@@ -28,6 +28,7 @@ pub enum Holding {
 const UNMET: Holding = Holding::NoClass;
 
 // Whether the byte of row x in which the bit of y stands is zero, as it is where the bytes do not reach.
+#[tactic(auto, using(crate::proofs::Passing::zero_past, crate::proofs::Passing::zero_read))]
 fn is_zero_byte(rows: &[u8], x: u32, y: u32) -> bool
     ensures { result ≡ zero_byte rows.now x y }
 {
@@ -39,6 +40,7 @@ fn is_zero_byte(rows: &[u8], x: u32, y: u32) -> bool
 }
 
 // Whether the word of one of the eight ids from `from` on is that of a class. No early exit: the eight are looked at together.
+#[tactic(auto, using(crate::proofs::Eights::class_none, crate::proofs::Eights::class_more, crate::proofs::Eights::class_all))]
 fn has_class(mem: &[u32], from: u32) -> bool
     requires table { Table mem.now }
     requires from_bound { from ≤ 504 }
@@ -65,6 +67,7 @@ fn class_in_byte(mem: &[u32], rows: &[u8], x: u32, d: u32, end: u32) -> Option<u
 }
 
 // Whether the eight bytes of row x among which the bit of y stands are all there and all zero.
+#[tactic(auto, using(crate::proofs::Eights::zeros_past, crate::proofs::Eights::zeros_none, crate::proofs::Eights::zeros_more, crate::proofs::Eights::zeros_all))]
 fn are_zero_bytes(rows: &[u8], x: u32, y: u32) -> bool
     ensures { result ≡ zero_bytes rows.now x y }
 {
@@ -81,6 +84,7 @@ fn are_zero_bytes(rows: &[u8], x: u32, y: u32) -> bool
 
 // The least class of the element of row x from d on, below the end of the eight bytes among which the bit of d stands. A byte without a bit, or whose
 // ids are of no class, is passed by.
+#[tactic(auto, using(crate::proofs::Passing::bytes_start, crate::proofs::Passing::byte_found, crate::proofs::Passing::byte_more, crate::proofs::Passing::parts_end))]
 fn class_in_bytes(mem: &[u32], rows: &[u8], x: u32, d: u32, end: u32) -> Option<u32>
     requires table { Table mem.now }
     requires end_value { end ≡ d / 64 * 64 + 64 }
@@ -121,6 +125,7 @@ pub fn next_class(mem: &[u32], rows: &[u8], x: u32, c: u32) -> Option<u32>
 }
 
 // Marks the classes in which association i gives the right: climbs on from its target.
+#[tactic(auto, using(crate::proofs::Associations::marks_kept))]
 fn give_by_climb(
     mem: &[u32],
     rows: &[u8],
@@ -145,6 +150,7 @@ fn give_by_climb(
 
 // What lacks for the right to be held, by climbing: the associations are gone through once, as far as the classes of the element need them, and
 // what their targets are within is climbed once.
+#[tactic(auto, using(crate::proofs::Turns::marked_next, crate::proofs::Turns::marked_still, crate::proofs::Turns::marked_more))]
 fn lack_by_climb(mem: &[u32], rows: &[u8], q: Asking) -> Holding
     requires table { Table mem.now }
     requires right_bound { q.right < 32 }
@@ -157,6 +163,7 @@ fn lack_by_climb(mem: &[u32], rows: &[u8], q: Asking) -> Holding
     let mut lacked = UNMET;
     let mut from = 1;
     'classes: while let Some(c) = next_class(mem, rows, q.over, from) {
+        // A while: the associations go on where the class before left them.
         while given[c as usize] == 0 {
             let Some(i) = associations.next() else {
                 lacked = Holding::LackedIn(c);
@@ -171,6 +178,7 @@ fn lack_by_climb(mem: &[u32], rows: &[u8], q: Asking) -> Holding
 }
 
 // Marks the classes in which association i gives the right: the row of its target.
+#[tactic(auto, using(crate::proofs::Associations::bits_kept, crate::proofs::Associations::bits_joined))]
 fn give_by_index(mem: &[u32], idx: &[u8], q: Asking, i: usize, given: &mut [u8])
     requires table { Table mem.now }
     requires idx_len { length idx.now ≡ 32768 }
@@ -186,7 +194,9 @@ fn give_by_index(mem: &[u32], idx: &[u8], q: Asking, i: usize, given: &mut [u8])
     index::join_row(idx, target, given);
 }
 
-// What lacks for the right to be held, by the bits of an index.
+// What lacks for the right to be held, by the bits of an index. Not one function with that by climbing: what was given is kept as bits here, as
+// marks with a queue there, and the bits of one row are joined where the other climbs on.
+#[tactic(auto, using(crate::proofs::Turns::bit_next, crate::proofs::Turns::bit_still, crate::proofs::Turns::bit_more, crate::proofs::Turns::bit_lacks))]
 fn lack_by_index(mem: &[u32], idx: &[u8], q: Asking) -> Holding
     requires table { Table mem.now }
     requires idx_len { length idx.now ≡ 32768 }
@@ -198,6 +208,7 @@ fn lack_by_index(mem: &[u32], idx: &[u8], q: Asking) -> Holding
     let mut lacked = UNMET;
     let mut from = 1;
     'classes: while let Some(c) = next_class(mem, idx, q.over, from) {
+        // A while: the associations go on where the class before left them.
         while !index::bit(&given, 0, c) {
             let Some(i) = associations.next() else {
                 lacked = Holding::LackedIn(c);
@@ -234,6 +245,7 @@ impl Lacking for Climbed<'_> {
 }
 
 // Whether the right is held and not restricted.
+#[tactic(auto, using(crate::proofs::Sighted::permits_rest, crate::proofs::Sighted::says, crate::proofs::Sighted::permits_lacking))]
 pub fn is_permitted<S: Lacking>(mem: &[u32], rows: &S, q: Asking) -> bool
     requires table { Table mem.now }
     requires right_bound { q.right < 32 }

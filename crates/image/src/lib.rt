@@ -12,6 +12,7 @@ ghost use Rattle.image.specs.Answers.{load_table, table_refusal, table_end, Read
 use answer::Refusal;
 
 // Refused with 13 or 14, the first that holds of the words that an image's records were laid into.
+#[tactic(auto, using(crate::proofs::Judged::no_table_13, table::proofs::Asked::tested, crate::proofs::Judged::broken_13, crate::proofs::Judged::wrong_14, crate::proofs::Judged::right_0))]
 fn table_refusal(mem: &[u32]) -> Result<(), Refusal>
     ensures { refusal_in result ≡ table_refusal mem.now }
 {
@@ -28,6 +29,7 @@ fn table_refusal(mem: &[u32]) -> Result<(), Refusal>
 }
 
 // The image's refusal, 11 to 14; where it is accepted the words, all zero at first, are then the table of its policy.
+#[tactic(auto, using(std::proofs::lemmas::Result::err_from_is_err_and, answer::proofs::Told::number_low, crate::proofs::Judged::sizes_tell, crate::proofs::Judged::unstowable_tells, crate::proofs::Judged::stowable_known))]
 fn read(s: &[u8], mem: &mut [u32]) -> Result<(), Refusal>
     requires { mem.old ≡ replicate 8192 0 }
     ensures { Read s.now (refusal_in result) mem.new }
@@ -42,6 +44,7 @@ fn read(s: &[u8], mem: &mut [u32]) -> Result<(), Refusal>
 }
 
 // Where the words of the table end: behind its last prohibition, or, where there is none, behind its last association.
+#[tactic(auto, using(crate::proofs::Copying::end_prohibited, crate::proofs::Copying::end_associated))]
 fn end_of(mem: &[u32]) -> usize
     requires { Table mem.now }
     ensures { AtMost (table_end mem.now) 8192 result }
@@ -78,6 +81,7 @@ pub fn load(mem: &mut [u32], s: &[u8]) -> Result<(), Refusal>
 }
 
 // Writes the table's image into the front of the lent bytes, or refuses: 1 where the memory holds no table, 10 where the bytes are too few.
+#[tactic(auto, using(crate::proofs::Saving::no_table_lem, table::proofs::Asked::tested, crate::proofs::Saving::image_saved))]
 pub fn save(mem: &[u32], out: &mut [u8]) -> Result<usize, Refusal>
     ensures { left result out.new ≡ saving (memory mem.now) out.old }
 {

@@ -6,5 +6,6 @@ pub mod Rounds
 pub mod Tidying
 pub mod Exactly
 pub mod Compared
+pub mod Alike
 pub mod Answered
 pub mod Unique

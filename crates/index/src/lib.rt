@@ -15,6 +15,7 @@ ghost use Rattle.index.specs.Answers.{left, matched};
 use answer::Refusal;
 
 // The bit of x and y: 0 where the bytes do not reach.
+#[tactic(auto, using(crate::proofs::Bytes::bit_past, crate::proofs::Bytes::bit_read))]
 pub fn bit(idx: &[u8], x: u32, y: u32) -> bool
     ensures { result ≡ bit_at idx.now x y }
 {
@@ -27,6 +28,7 @@ pub fn bit(idx: &[u8], x: u32, y: u32) -> bool
 }
 
 // Adds the bits of row x of an index to the lent row of 64 bytes.
+#[tactic(auto, using(crate::proofs::Joins::joined_none, crate::proofs::Joins::joined_more, crate::proofs::Joins::joined_end), unfolding(crate::specs::Rows::both))]
 pub fn join_row(idx: &[u8], x: u32, row: &mut [u8])
     requires idx_len { length idx.now ≡ 32768 }
     requires x_bound { x < 512 }
@@ -39,6 +41,7 @@ pub fn join_row(idx: &[u8], x: u32, row: &mut [u8])
 }
 
 // Adds row b to row a, and returns by how much the sum of the bytes grew.
+#[tactic(auto, using(crate::proofs::Rows::added_none, crate::proofs::Bytes::both_more, crate::proofs::Rows::added_end), unfolding(crate::specs::Rows::both))]
 fn add_row(idx: &mut [u8], a: usize, b: usize) -> u32
     requires idx_len { length idx.old ≡ 32768 }
     requires a_bound { a < 512 }
@@ -65,6 +68,7 @@ fn clear_row(idx: &mut [u8], a: usize)
 }
 
 // Makes the byte of x and x the one with just their bit, if element x is there.
+#[tactic(auto, using(crate::proofs::Seeds::seed_none))]
 fn seed_row(mem: &[u32], idx: &mut [u8], x: usize)
     requires table { Table mem.now }
     requires idx_len { length idx.old ≡ 32768 }
@@ -78,6 +82,7 @@ fn seed_row(mem: &[u32], idx: &mut [u8], x: usize)
 }
 
 // Each element that is there is within itself.
+#[tactic(auto, using(crate::proofs::Seeds::seeded_none, crate::proofs::Seeds::seeded_more))]
 fn start(mem: &[u32], idx: &mut [u8])
     requires table { Table mem.now }
     requires idx_len { length idx.old ≡ 32768 }
@@ -169,6 +174,7 @@ fn climb_all(mem: &[u32], idx: &mut [u8])
 }
 
 // Steps over all assignments in their order, and returns by how much the sum of the bytes grew.
+#[tactic(auto, using(crate::proofs::Rounds::passed_none, crate::proofs::Rounds::passed_end))]
 fn pass(mem: &[u32], idx: &mut [u8]) -> u32
     requires table { Table mem.now }
     requires good { Good mem.now idx.old }
@@ -206,6 +212,7 @@ fn complete(mem: &[u32], idx: &mut [u8])
 }
 
 // Makes row x zero if element x is not there.
+#[tactic(auto, using(crate::proofs::Tidying::row_stays, crate::proofs::Tidying::row_goes))]
 fn tidy_row(mem: &[u32], idx: &mut [u8], x: u32)
     requires table { Table mem.now }
     requires idx_len { length idx.old ≡ 32768 }
@@ -219,6 +226,7 @@ fn tidy_row(mem: &[u32], idx: &mut [u8], x: u32)
 }
 
 // Makes the rows of elements that are not there zero: of those, only children of assignments can have bits.
+#[tactic(auto, using(crate::proofs::Tidying::tidied_none, crate::proofs::Tidying::tidied_end))]
 fn tidy(mem: &[u32], idx: &mut [u8])
     requires table { Table mem.now }
     requires idx_len { length idx.old ≡ 32768 }
@@ -269,6 +277,7 @@ fn is_same(mem: &[u32], idx: &[u8]) -> bool
 }
 
 // Whether the bytes are the table's index, with the refusals of `build`.
+#[tactic(auto, using(crate::proofs::Answered::match_no_table, crate::proofs::Answered::match_bad_index, table::proofs::Asked::tested))]
 pub fn is_index(mem: &[u32], idx: &[u8]) -> Result<bool, Refusal>
     ensures { matched result ≡ is_index (memory mem.now) idx.now }
 {

@@ -53,21 +53,14 @@ fn are_associations_paired(mem: &[u32]) -> bool
     (0..n).all(|i| is_association_paired(mem, i))
 }
 
-// Whether the subject of prohibition i and what it lists are there, of the right kinds. Its ids stand behind its first three words.
+// Whether the subject of prohibition i and what it lists are there, of the right kinds.
 fn is_prohibition_paired(mem: &[u32], i: usize) -> bool
     requires table { Table mem.now }
     requires i_bound { i < prohibition_count mem.now }
     ensures { result ≡ prohibition_pairs (policy_of mem.now) (prohibition_at mem.now i) }
 {
-    let sort = table::sort_at(mem, i);
-    let subject = table::subject_at(mem, i);
-    let from = table::PROHIBITIONS + 11 * i + 3;
-    let middle = from + table::inclusion_count_at(mem, i);
-    let to = middle + table::exclusion_count_at(mem, i);
-    let inclusion = &mem[from..middle];
-    let exclusion = &mem[middle..to];
-    !prohibition::names_absent(mem, sort, subject, inclusion, exclusion)
-        && !prohibition::names_other_kind(mem, sort, subject, inclusion, exclusion)
+    let b = prohibition::stored(mem, i);
+    !prohibition::names_absent(mem, b) && !prohibition::names_other_kind(mem, b)
 }
 
 // Whether those of each prohibition are.
@@ -119,6 +112,7 @@ fn returns_by(mem: &[u32], idx: &[u8]) -> bool
 }
 
 // Lifts the child of assignment i above its container: its rank becomes the next one, unless it is higher already. No rank is above 512.
+#[tactic(auto, using(crate::proofs::Lifting::child_low, crate::proofs::Lifting::lift_higher, crate::proofs::Lifting::lift_top, crate::proofs::Lifting::lift_next))]
 fn lift(mem: &[u32], ranks: &mut [u32; 512], i: usize)
     requires table { Table mem.now }
     requires i_bound { i < assignment_count mem.now }
@@ -137,6 +131,7 @@ fn lift(mem: &[u32], ranks: &mut [u32; 512], i: usize)
 
 // A rank for each element: every child lifted above its container, in the assignments' order and then against it. Where ids rise along chains, or
 // fall, each child is then above its container.
+#[tactic(auto, using(crate::proofs::Lifting::risen_none, crate::proofs::Lifting::risen_all, crate::proofs::Lifting::sunk_more, crate::proofs::Lifting::sunk_all))]
 fn ranks(mem: &[u32]) -> [u32; 512]
     requires { Table mem.now }
     ensures { result ≡ ranks_of mem.now }

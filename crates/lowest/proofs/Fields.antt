@@ -1,47 +1,64 @@
 -- Whether an association is before another, and the name of the lower: the attributes decide, then the targets, then the rights.
 -- Assumes nothing.
-use mathlib.Core.Path.{◌≡◌, refl, ap, ◌∙◌}
-use mathlib.Core.Bool.{Bool, true, false, not, cond, ◌&&◌, ◌||◌}
-use mathlib.Core.List.{List, [], ◌∷◌}
-use Prim.Native.Nat.{ℕ, zero, suc, ◌+◌, ◌-◌, ◌≤◌}
+use mathlib.Core.Path.{◌≡◌, refl, sym, ap, ◌∙◌}
+use mathlib.Core.Bool.{Bool, true, false, not, cond}
+use mathlib.Core.List.{List, ◌∷◌}
+use Prim.Native.Nat.{ℕ, zero, suc, ◌+◌, ◌-◌, ◌≤◌, ◌<◌}
 use native.Mathlib.Omega.{arith}
-use borrow.Author.Tests.{eq-eqb, ne_eqb, not-true, not-false}
+use borrow.Author.Tests.{eq-eqb, ne_eqb, le-ltb, not-true, not-false}
 use lib.Dec.{eqb, ltb}
-use Rattle.std.specs.Prelude.{Option, Some}
-use Rattle.std.specs.Ordering.{is_some_and, is_lt, nat_cmp, partial_lt, partial_ordering_then}
-use Rattle.std.specs.declared.cmp.Ordering.{Ordering}
-use Rattle.std.specs.declared.cmp.Ordering.TheVariants.{Less, Equal, Greater}
 use lib.ListN.{get_or}
 use Rattle.model.specs.Lists.{before}
+use Rattle.model.proofs.Order.{first_lower, before_one}
 use Rattle.table.specs.View.{association_at}
 use Rattle.lowest.specs.Named.{is_before, is_lower, is_lower_at_target, lower_name, NamesOfFirst}
 
--- three fields compared as a tuple are compared as written
-fields_before : (a s r b t u : ℕ)
-    → partial_lt {X = ℕ × ℕ × ℕ} (λ x y. partial_ordering_then (partial_ordering_then (Some (nat_cmp x.0 y.0)) (Some (nat_cmp x.1 y.1))) (Some (nat_cmp x.2 y.2))) (a, s, r) (b, t, u)
-    ≡ before (a ∷ s ∷ r ∷ []) (b ∷ t ∷ u ∷ [])
+-- a higher first field is not before a lower one
+first_higher : (x y : ℕ) (a b : List ℕ) → y < x → before (x ∷ a) (y ∷ b) ≡ false
 unfolding before
-fields_before a s r b t u = go (ltb a b) (eqb a b) (ltb s t) (eqb s t) (ltb r u) (eqb r u)
-  where
-    order : (less equal : Bool) → Option Ordering
-    order less equal = Some (cond less Less (cond equal Equal Greater))
+first_higher x y a b h =
+    let l : y ≤ x = omega arith in
+    let d : x ≡ y → ⊥ = λ e. omega arith in
+    rw (le-ltb x y l, ne_eqb x y d)
 
-    go : (l e l' e' l'' e'' : Bool)
-        → is_some_and is_lt (partial_ordering_then (partial_ordering_then (order l e) (order l' e')) (order l'' e'')) ≡ (l || e && (l' || e' && (l'' || e'' && false)))
-    go true e l' e' l'' e'' = refl
-    go false false l' e' l'' e'' = refl
-    go false true true e' l'' e'' = refl
-    go false true false false l'' e'' = refl
-    go false true false true true e'' = refl
-    go false true false true false true = refl
-    go false true false true false false = refl
+-- where neither first field is lower, the rest decides
+rest_decides : (x y : ℕ) (a b : List ℕ) → y ≤ x → x ≤ y → before (x ∷ a) (y ∷ b) ≡ before a b
+unfolding before
+rest_decides x y a b h k =
+    let e : x ≡ y = omega arith in
+    rw (le-ltb x y h, eq-eqb x y e)
 
--- what was read of two associations, compared as a tuple
-pub read_before : (mem : List ℕ) (i j : ℕ) {a s r b t u : ℕ} → a ≡ (association_at mem i).attribute → s ≡ (association_at mem i).target → r ≡ (association_at mem i).rights
-    → b ≡ (association_at mem j).attribute → t ≡ (association_at mem j).target → u ≡ (association_at mem j).rights
-    → partial_lt {X = ℕ × ℕ × ℕ} (λ x y. partial_ordering_then (partial_ordering_then (Some (nat_cmp x.0 y.0)) (Some (nat_cmp x.1 y.1))) (Some (nat_cmp x.2 y.2))) (a, s, r) (b, t, u)
-    ≡ is_before mem i j
-read_before mem i j ea es er eb et eu = rw (ea, es, er, eb, et, eu) (fields_before _ _ _ _ _ _)
+-- What was read of two associations, field by field, as far as they are equal.
+module _ (mem : List ℕ) (i j : ℕ) {a b : ℕ} (ea : a ≡ (association_at mem i).attribute) (eb : b ≡ (association_at mem j).attribute) where
+  -- the lower attribute is before
+  pub attribute_lower : a < b → true ≡ is_before mem i j
+  attribute_lower h = sym (first_lower (association_at mem i).attribute (association_at mem j).attribute _ _ (omega arith))
+
+  -- the higher one is not
+  pub attribute_higher : b < a → false ≡ is_before mem i j
+  attribute_higher h = sym (first_higher (association_at mem i).attribute (association_at mem j).attribute _ _ (omega arith))
+
+  module _ (l : b ≤ a) (l' : a ≤ b) {s t : ℕ} (es : s ≡ (association_at mem i).target) (et : t ≡ (association_at mem j).target) where
+    -- the targets and the rights decide
+    attributes_equal : (x y : List ℕ) → before ((association_at mem i).attribute ∷ x) ((association_at mem j).attribute ∷ y) ≡ before x y
+    attributes_equal x y = rest_decides (association_at mem i).attribute (association_at mem j).attribute x y (omega arith) (omega arith)
+
+    -- then the lower target is before
+    pub target_lower : s < t → true ≡ is_before mem i j
+    target_lower h = sym (attributes_equal _ _ ∙ first_lower (association_at mem i).target (association_at mem j).target _ _ (omega arith))
+
+    -- the higher one is not
+    pub target_higher : t < s → false ≡ is_before mem i j
+    target_higher h = sym (attributes_equal _ _ ∙ first_higher (association_at mem i).target (association_at mem j).target _ _ (omega arith))
+
+    -- then the rights decide
+    pub rights_decide : t ≤ s → s ≤ t → {v w : ℕ} → v ≡ (association_at mem i).rights → w ≡ (association_at mem j).rights → ltb v w ≡ is_before mem i j
+    rights_decide h k {v} {w} ev ew =
+        rw (ev, ew)
+        (sym
+        (attributes_equal _ _
+        ∙ rest_decides (association_at mem i).target (association_at mem j).target _ _ (omega arith) (omega arith)
+        ∙ before_one (association_at mem i).rights (association_at mem j).rights))
 
 -- where none is named, association i is lower
 pub lower_than_none : (mem : List ℕ) (name i : ℕ) → name ≡ 0 → true ≡ is_lower mem name i

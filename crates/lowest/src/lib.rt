@@ -11,26 +11,35 @@ ghost use Rattle.lowest.specs.Marked.{associations_rise, first_name, ClassesQueu
 use rule::{Asking, Climbed};
 
 // Whether association i is before association j, by user attribute, target, then rights.
+#[tactic(auto, using(crate::proofs::Fields::attribute_lower, crate::proofs::Fields::attribute_higher, crate::proofs::Fields::target_lower, crate::proofs::Fields::target_higher, crate::proofs::Fields::rights_decide))]
 fn is_before(mem: &[u32], i: usize, j: usize) -> bool
     requires table { Table mem.now }
     requires i_bound { i < association_count mem.now }
     requires j_bound { j < association_count mem.now }
     ensures { result ≡ is_before mem.now i j }
 {
-    let of_i = (
-        table::attribute_at(mem, i),
-        table::target_at(mem, i),
-        table::rights_at(mem, i),
-    );
-    let of_j = (
-        table::attribute_at(mem, j),
-        table::target_at(mem, j),
-        table::rights_at(mem, j),
-    );
-    of_i < of_j
+    // Field by field: as tuples, an explanation of the largest table was a sixth slower.
+    let a = table::attribute_at(mem, i);
+    let b = table::attribute_at(mem, j);
+    if a < b {
+        return true;
+    }
+    if b < a {
+        return false;
+    }
+    let s = table::target_at(mem, i);
+    let t = table::target_at(mem, j);
+    if s < t {
+        return true;
+    }
+    if t < s {
+        return false;
+    }
+    table::rights_at(mem, i) < table::rights_at(mem, j)
 }
 
 // Whether association i is lower than what is named: before it, or none is named.
+#[tactic(auto, using(crate::proofs::Fields::lower_than_none, crate::proofs::Fields::lower_than_named))]
 fn is_lower(mem: &[u32], name: u32, i: usize) -> bool
     requires table { Table mem.now }
     requires name_le_i { name ≤ i }
@@ -44,6 +53,7 @@ fn is_lower(mem: &[u32], name: u32, i: usize) -> bool
 }
 
 // The name of the lower of a named association and association i.
+#[tactic(auto, using(crate::proofs::Fields::name_stays, crate::proofs::Fields::name_next))]
 fn lower(mem: &[u32], name: u32, i: usize) -> u32
     requires table { Table mem.now }
     requires name_le_i { name ≤ i }
@@ -57,6 +67,7 @@ fn lower(mem: &[u32], name: u32, i: usize) -> u32
 }
 
 // The name that a class keeps when association i authorizes the right where the mark is not 0.
+#[tactic(auto, using(crate::proofs::Fields::no_mark, crate::proofs::Fields::some_mark))]
 fn kept_or_lower(mem: &[u32], mark: u8, name: u32, i: usize) -> u32
     requires table { Table mem.now }
     requires name_le_i { name ≤ i }
@@ -70,6 +81,7 @@ fn kept_or_lower(mem: &[u32], mark: u8, name: u32, i: usize) -> u32
 }
 
 // Names association i in each class that its target is within, unless a lower one is named there.
+#[tactic(auto, using(crate::proofs::Setting::set_none, crate::proofs::Setting::next_few))]
 fn name_above(mem: &[u32], i: usize, names: &mut [u32; 512])
     requires table { Table mem.now }
     requires i_bound { i < association_count mem.now }
@@ -83,6 +95,7 @@ fn name_above(mem: &[u32], i: usize, names: &mut [u32; 512])
 }
 
 // Whether association i is lower than what is named at its target.
+#[tactic(auto, using(crate::proofs::Fields::target_few, crate::proofs::Fields::target_decides))]
 fn is_lower_at_target(mem: &[u32], i: usize, names: &[u32; 512]) -> bool
     requires table { Table mem.now }
     requires i_bound { i < association_count mem.now }
@@ -93,6 +106,7 @@ fn is_lower_at_target(mem: &[u32], i: usize, names: &[u32; 512]) -> bool
 }
 
 // Takes association i into account.
+#[tactic(auto, using(crate::proofs::Taken::taken_none, crate::proofs::Taken::taken_kept))]
 fn name_next(mem: &[u32], rows: &[u8], q: Asking, i: usize, names: &mut [u32; 512])
     requires table { Table mem.now }
     requires rows { Rows mem.now rows.now false q }
@@ -112,6 +126,7 @@ fn name_next(mem: &[u32], rows: &[u8], q: Asking, i: usize, names: &mut [u32; 51
 }
 
 // For each class the name of the lowest association that authorizes the right in it, whatever the order of the associations.
+#[tactic(auto, using(crate::proofs::Taken::taken_all))]
 fn lowest_of_any(mem: &[u32], rows: &[u8], q: Asking) -> [u32; 512]
     requires table { Table mem.now }
     requires rows { Rows mem.now rows.now false q }
@@ -136,6 +151,7 @@ fn are_rising(mem: &[u32]) -> bool
 }
 
 // What is named, association i where none is.
+#[tactic(auto, using(crate::proofs::Queued::some_stays, crate::proofs::Queued::none_next))]
 fn first_name(name: u32, i: usize) -> u32
     requires { i < 1000 }
     ensures { result ≡ first_name name i }
@@ -147,6 +163,7 @@ fn first_name(name: u32, i: usize) -> u32
 }
 
 // Names association i in each class that stands in the queue from `tail` on and names none.
+#[tactic(auto, using(crate::proofs::Queued::queued_none, crate::proofs::Queued::class_fits, crate::proofs::Queued::place_fits, crate::proofs::Queued::next_class, crate::proofs::Queued::queued_all))]
 fn name_queued(queue: &[u32; 512], tail: usize, t: usize, i: usize, names: &mut [u32; 512])
     requires classes_queued { ClassesQueued queue.now t }
     requires tail_le_t { tail ≤ t }
@@ -210,6 +227,7 @@ fn lowest_of_rising(mem: &[u32], rows: &[u8], q: Asking) -> [u32; 512]
     let mut tail = 0;
     let mut from = 1;
     while let Some(c) = held::next_class(mem, rows, q.over, from) {
+        // A while: the associations go on where the class before left them.
         while names[c as usize] == 0 {
             let Some(i) = associations.next() else {
                 break;
@@ -222,6 +240,7 @@ fn lowest_of_rising(mem: &[u32], rows: &[u8], q: Asking) -> [u32; 512]
 }
 
 // In each class of the element the name of the lowest association that authorizes the right there.
+#[tactic(auto, using(crate::proofs::InOrder::rise_so))]
 pub fn lowest(mem: &[u32], rows: &[u8], q: Asking) -> [u32; 512]
     requires table { Table mem.now }
     requires rows { Rows mem.now rows.now false q }

@@ -39,6 +39,7 @@ pub struct Counts {
 }
 
 // The counts that the head says.
+#[tactic(auto, using(crate::proofs::Passing::counted))]
 pub fn head(s: &[u8]) -> Counts
     requires { Reaches s.now 0 50 }
     ensures { Counted (bits_of s.now) result.elements result.assignments result.associations result.prohibitions result.processes }
@@ -58,6 +59,7 @@ pub fn head(s: &[u8]) -> Counts
 }
 
 // The place behind n prohibitions, one past all the bits where they end before it.
+#[tactic(auto, using(crate::proofs::Passing::none_passed, crate::proofs::Passing::one_passed, crate::proofs::Passing::all_passed))]
 pub fn behind(s: &[u8], at: usize, n: usize) -> usize
     requires s_len_bound { length s.now ≤ 2 ^ 32 }
     requires at_bound { at < 2 ^ 32 }
@@ -77,6 +79,7 @@ pub fn behind(s: &[u8], at: usize, n: usize) -> usize
 }
 
 // Whether a bit from a place in the last byte on is set.
+#[tactic(auto, using(crate::proofs::Filling::none_left, crate::proofs::Filling::some_left))]
 fn strays(s: &[u8], end: usize) -> bool
     requires s_len_bound { length s.now ≤ 2 ^ 32 }
     requires end_bound { end ≤ 8 * length s.now }
@@ -116,6 +119,7 @@ fn misfits(s: &[u8]) -> bool
 }
 
 // Whether the image has a first byte, and another form than 1 in it.
+#[tactic(auto, using(crate::proofs::Filling::form_taken))]
 fn is_other_form(s: &[u8]) -> bool
     requires { 0 < length s.now }
     ensures { result ≡ other_form s.now }

@@ -55,6 +55,7 @@ fn write_table_head(mem: &[u32], out: &mut [u8]) -> usize
 }
 
 // Writes the head, the elements and the assignments.
+#[tactic(auto, using(crate::proofs::Wholes::head_room, crate::proofs::Wholes::elements_room, crate::proofs::Wholes::assignments_room))]
 fn write_first(mem: &[u32], out: &mut [u8]) -> usize
     requires table { Table mem.now }
     requires reaches { Reaches out.old 0 (length (image_bits (policy_of mem.now))) }
@@ -66,6 +67,7 @@ fn write_first(mem: &[u32], out: &mut [u8]) -> usize
 }
 
 // Writes the associations, the prohibitions and the processes.
+#[tactic(auto, using(crate::proofs::Wholes::room_first, crate::proofs::Wholes::room_second, crate::proofs::Wholes::room_third))]
 fn write_rest(mem: &[u32], out: &mut [u8], at: usize) -> usize
     requires table { Table mem.now }
     requires reaches { Reaches out.old at (length (group_bits association_bits (policy_of mem.now).associations ++ (group_bits prohibition_bits (policy_of mem.now).prohibitions ++ group_bits process_bits (policy_of mem.now).processes))) }

@@ -21,11 +21,8 @@ use Rattle.table.specs.View.{holds_table, policy_of, memory, empty_table}
 use Rattle.table.specs.Answers as table
 use Rattle.std.specs.Prelude.{Bool, Result}
 use Rattle.answer.specs.declared.Refusal.{Refusal}
-use Rattle.answer.specs.Answers as result
 use Rattle.answer.specs.Answers.{IsRefused}
 use Rattle.answer.proofs.Told.{refused_told, told_refused}
-use Rattle.climb.specs.Answers as climb
-use Rattle.index.specs.Answers as index
 use Rattle.request.specs.Asks.{request_of}
 use Rattle.request.specs.declared.Request.{Request}
 use Rattle.explain.specs.Answers as numbers

@@ -3,7 +3,7 @@
 #![tactic(auto)]
 
 ghost use Rattle.model.specs.Command.{create_class, create_element, assign, deassign, delete_element, create_association, delete_association, create_prohibition, delete_prohibition, start_process, end_process};
-ghost use Rattle.store.specs.ProhibitionWords.{prohibition};
+ghost use Rattle.store.specs.Given.{association_of, prohibition_of};
 ghost use Rattle.policy.specs.Allows as allows;
 
 use answer::Refusal;
@@ -11,6 +11,7 @@ use decide::Decision;
 use explain::Explanation;
 use request::Request;
 use rows::Row;
+use store::{Association, Prohibition};
 
 // Makes the memory an empty table. Refused with 1 where it has another length than 8,192 words.
 pub fn new(mem: &mut [u32]) -> Result<(), Refusal>
@@ -128,61 +129,31 @@ pub fn delete_element(mem: &mut [u32], idx: &mut [u8], id: u32) -> Result<(), Re
 }
 
 // Creates an association.
-pub fn create_association(
-    mem: &mut [u32],
-    idx: &mut [u8],
-    attribute: u32,
-    target: u32,
-    rights: u32,
-) -> Result<(), Refusal>
-    ensures { allows.command mem.old idx.old (create_association (record { attribute = attribute; target = target; rights = rights })) result mem.new idx.new }
+pub fn create_association(mem: &mut [u32], idx: &mut [u8], a: Association) -> Result<(), Refusal>
+    ensures { allows.command mem.old idx.old (create_association (association_of a)) result mem.new idx.new }
 {
-    command::create_association(mem, idx, attribute, target, rights)
+    command::create_association(mem, idx, a)
 }
 
 // Deletes an association, by its exact triple.
-pub fn delete_association(
-    mem: &mut [u32],
-    idx: &mut [u8],
-    attribute: u32,
-    target: u32,
-    rights: u32,
-) -> Result<(), Refusal>
-    ensures { allows.command mem.old idx.old (delete_association (record { attribute = attribute; target = target; rights = rights })) result mem.new idx.new }
+pub fn delete_association(mem: &mut [u32], idx: &mut [u8], a: Association) -> Result<(), Refusal>
+    ensures { allows.command mem.old idx.old (delete_association (association_of a)) result mem.new idx.new }
 {
-    command::delete_association(mem, idx, attribute, target, rights)
+    command::delete_association(mem, idx, a)
 }
 
 // Creates a prohibition. Its lists may be of any length.
-pub fn create_prohibition(
-    mem: &mut [u32],
-    idx: &mut [u8],
-    sort: u32,
-    subject: u32,
-    form: u32,
-    rights: u32,
-    inclusion: &[u32],
-    exclusion: &[u32],
-) -> Result<(), Refusal>
-    ensures { allows.command mem.old idx.old (create_prohibition (prohibition sort subject form rights inclusion.now exclusion.now)) result mem.new idx.new }
+pub fn create_prohibition(mem: &mut [u32], idx: &mut [u8], b: Prohibition) -> Result<(), Refusal>
+    ensures { allows.command mem.old idx.old (create_prohibition (prohibition_of b.entry)) result mem.new idx.new }
 {
-    command::create_prohibition(mem, idx, sort, subject, form, rights, inclusion, exclusion)
+    command::create_prohibition(mem, idx, b)
 }
 
 // Deletes a prohibition, by its exact fields.
-pub fn delete_prohibition(
-    mem: &mut [u32],
-    idx: &mut [u8],
-    sort: u32,
-    subject: u32,
-    form: u32,
-    rights: u32,
-    inclusion: &[u32],
-    exclusion: &[u32],
-) -> Result<(), Refusal>
-    ensures { allows.command mem.old idx.old (delete_prohibition (prohibition sort subject form rights inclusion.now exclusion.now)) result mem.new idx.new }
+pub fn delete_prohibition(mem: &mut [u32], idx: &mut [u8], b: Prohibition) -> Result<(), Refusal>
+    ensures { allows.command mem.old idx.old (delete_prohibition (prohibition_of b.entry)) result mem.new idx.new }
 {
-    command::delete_prohibition(mem, idx, sort, subject, form, rights, inclusion, exclusion)
+    command::delete_prohibition(mem, idx, b)
 }
 
 // Starts a process of a user.

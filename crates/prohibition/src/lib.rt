@@ -6,12 +6,15 @@ ghost use Rattle.model.specs.Lists.{all_of, rising_ids};
 ghost use Rattle.model.specs.Policy.{is_element_id, is_sort, is_there, has_prohibition};
 ghost use Rattle.model.specs.Sound.{subject_in_range, lists_fit, subject_there, subject_of_kind};
 ghost use Rattle.model.specs.Command.{bad_prohibition, absent_in, wrong_kind_in, ill_formed};
-ghost use Rattle.table.specs.View.{policy_of};
+ghost use Rattle.table.specs.Layout.{prohibition_count};
+ghost use Rattle.table.specs.View.{policy_of, prohibition_at};
 ghost use Rattle.table.specs.Facts.{Table};
+ghost use Rattle.store.specs.Given.{prohibition_of};
 ghost use Rattle.store.specs.ProhibitionWords.{prohibition};
 ghost use Rattle.prohibition.specs.Lists.{are_attributes};
 
 use kinds::{USER, USER_ATTRIBUTE};
+use store::Prohibition;
 
 // The sorts of subjects.
 const BY_USER: u32 = 1;
@@ -22,6 +25,25 @@ const BY_ATTRIBUTE: u32 = 3;
 
 // How many ids a list can have.
 const MOST_LISTED: usize = 4;
+
+// Prohibition i of the table, its lists lent from the words: its ids stand behind the first three words of its record.
+pub fn stored(mem: &[u32], i: usize) -> Prohibition<'_>
+    requires table { Table mem.now }
+    requires i_bound { i < prohibition_count mem.now }
+    ensures { prohibition_of result ≡ prohibition_at mem.now i }
+{
+    let from = table::PROHIBITIONS + 11 * i + 3;
+    let middle = from + table::inclusion_count_at(mem, i);
+    let to = middle + table::exclusion_count_at(mem, i);
+    Prohibition {
+        sort: table::sort_at(mem, i),
+        subject: table::subject_at(mem, i),
+        form: table::form_at(mem, i),
+        rights: table::prohibition_rights_at(mem, i),
+        inclusion: &mem[from..middle],
+        exclusion: &mem[middle..to],
+    }
+}
 
 // Each id of the list is one of an element.
 fn are_ids(list: &[u32]) -> bool
@@ -76,20 +98,14 @@ fn is_subject_in_range(sort: u32, subject: u32) -> bool
 
 // Whether a number that the prohibition is given by is out of range. The rights play no part.
 #[tactic(auto, using(model::proofs::Truth::all_append), unfolding(model::specs::Command::bad_prohibition, model::specs::Sound::subject_in_range, model::specs::Policy::is_form))]
-pub fn is_out_of_range(
-    sort: u32,
-    subject: u32,
-    form: u32,
-    inclusion: &[u32],
-    exclusion: &[u32],
-) -> bool
-    ensures { result ≡ bad_prohibition (prohibition sort subject form 0 inclusion.now exclusion.now) }
+pub fn is_out_of_range(b: Prohibition) -> bool
+    ensures { result ≡ bad_prohibition (record (prohibition_of b.entry) { rights = 0 }) }
 {
-    !is_sort(sort)
-        || 1 < form
-        || !is_subject_in_range(sort, subject)
-        || !are_ids(inclusion)
-        || !are_ids(exclusion)
+    !is_sort(b.sort)
+        || 1 < b.form
+        || !is_subject_in_range(b.sort, b.subject)
+        || !are_ids(b.inclusion)
+        || !are_ids(b.exclusion)
 }
 
 // Whether the subject is there.
@@ -107,19 +123,13 @@ fn is_subject_there(mem: &[u32], sort: u32, subject: u32) -> bool
 
 // Whether the subject or a listed attribute is not there. Neither form nor rights play a part.
 #[tactic(auto, using(model::proofs::Truth::all_append), unfolding(model::specs::Command::absent_in, model::specs::Sound::subject_there))]
-pub fn names_absent(
-    mem: &[u32],
-    sort: u32,
-    subject: u32,
-    inclusion: &[u32],
-    exclusion: &[u32],
-) -> bool
+pub fn names_absent(mem: &[u32], b: Prohibition) -> bool
     requires { Table mem.now }
-    ensures { result ≡ absent_in (policy_of mem.now) (prohibition sort subject 0 0 inclusion.now exclusion.now) }
+    ensures { result ≡ absent_in (policy_of mem.now) (record (prohibition_of b.entry) { form = 0; rights = 0 }) }
 {
-    !is_subject_there(mem, sort, subject)
-        || !are_there(mem, inclusion)
-        || !are_there(mem, exclusion)
+    !is_subject_there(mem, b.sort, b.subject)
+        || !are_there(mem, b.inclusion)
+        || !are_there(mem, b.exclusion)
 }
 
 // Whether the subject is of the kind that its sort says.
@@ -137,19 +147,13 @@ fn is_subject_of_kind(mem: &[u32], sort: u32, subject: u32) -> bool
 
 // Whether the subject or a listed attribute is of another kind. Neither form nor rights play a part.
 #[tactic(auto, using(model::proofs::Truth::all_append), unfolding(model::specs::Command::wrong_kind_in, model::specs::Sound::subject_of_kind, crate::specs::Lists::are_attributes))]
-pub fn names_other_kind(
-    mem: &[u32],
-    sort: u32,
-    subject: u32,
-    inclusion: &[u32],
-    exclusion: &[u32],
-) -> bool
+pub fn names_other_kind(mem: &[u32], b: Prohibition) -> bool
     requires { Table mem.now }
-    ensures { result ≡ wrong_kind_in (policy_of mem.now) (prohibition sort subject 0 0 inclusion.now exclusion.now) }
+    ensures { result ≡ wrong_kind_in (policy_of mem.now) (record (prohibition_of b.entry) { form = 0; rights = 0 }) }
 {
-    !is_subject_of_kind(mem, sort, subject)
-        || !are_attributes(mem, inclusion)
-        || !are_attributes(mem, exclusion)
+    !is_subject_of_kind(mem, b.sort, b.subject)
+        || !are_attributes(mem, b.inclusion)
+        || !are_attributes(mem, b.exclusion)
 }
 
 // Whether the lists are as a prohibition's must be: at most four ids each, each strictly rising, not both empty.
@@ -166,30 +170,22 @@ fn do_lists_fit(inclusion: &[u32], exclusion: &[u32]) -> bool
 
 // Whether the right set is empty or the lists do not fit. Neither subject nor form play a part.
 #[tactic(auto, unfolding(model::specs::Command::ill_formed, model::specs::Sound::lists_fit))]
-pub fn is_ill_formed(rights: u32, inclusion: &[u32], exclusion: &[u32]) -> bool
-    ensures { result ≡ ill_formed (prohibition 0 0 0 rights inclusion.now exclusion.now) }
+pub fn is_ill_formed(b: Prohibition) -> bool
+    ensures { result ≡ ill_formed (record (prohibition_of b.entry) { sort = 0; subject = 0; form = 0 }) }
 {
-    rights == 0 || !do_lists_fit(inclusion, exclusion)
+    b.rights == 0 || !do_lists_fit(b.inclusion, b.exclusion)
 }
 
 // Whether the prohibition is there, by its exact fields: none has a list of more than four.
 #[tactic(auto, using(crate::proofs::TooLong::long_inclusion_absent, crate::proofs::TooLong::long_exclusion_absent))]
-pub fn is_there(
-    mem: &[u32],
-    sort: u32,
-    subject: u32,
-    form: u32,
-    rights: u32,
-    inclusion: &[u32],
-    exclusion: &[u32],
-) -> bool
+pub fn is_there(mem: &[u32], b: Prohibition) -> bool
     requires table { Table mem.now }
-    requires sort_bound { sort ≤ 3 }
-    requires subject_bound { subject < 512 }
-    requires form_bound { form ≤ 1 }
-    ensures { result ≡ has_prohibition (policy_of mem.now) (prohibition sort subject form rights inclusion.now exclusion.now) }
+    requires sort_bound { b.sort ≤ 3 }
+    requires subject_bound { b.subject < 512 }
+    requires form_bound { b.form ≤ 1 }
+    ensures { result ≡ has_prohibition (policy_of mem.now) (prohibition_of b.entry) }
 {
-    inclusion.len() <= MOST_LISTED
-        && exclusion.len() <= MOST_LISTED
-        && store::has_prohibition(mem, sort, subject, form, rights, inclusion, exclusion)
+    b.inclusion.len() <= MOST_LISTED
+        && b.exclusion.len() <= MOST_LISTED
+        && store::has_prohibition(mem, b)
 }

@@ -13,6 +13,7 @@ use bits::Cursor;
 use table::{ASSIGNMENTS, ASSOCIATIONS, PROHIBITIONS};
 
 // Writes n words from a place on, `width` low bits of each.
+#[tactic(auto, using(crate::proofs::Turns::number_room))]
 fn numbers(mem: &[u32], from: usize, n: usize, width: u32, out: &mut [u8], at: usize) -> usize
     requires n_in_bounds { from + n ≤ length mem.now }
     requires n_bound { n ≤ 2000 }
@@ -44,6 +45,7 @@ fn element(mem: &[u32], x: u32, out: &mut [u8], at: usize) -> usize
 }
 
 // Writes the elements.
+#[tactic(auto, using(crate::proofs::Turns::elements_room))]
 pub fn elements(mem: &[u32], out: &mut [u8], at: usize) -> usize
     requires table { Table mem.now }
     requires reaches { Reaches out.old at (length (group_bits element_bits (policy_of mem.now).elements)) }
@@ -72,6 +74,7 @@ fn process(mem: &[u32], i: u32, out: &mut [u8], at: usize) -> usize
 }
 
 // Writes the processes.
+#[tactic(auto, using(crate::proofs::Turns::processes_room))]
 pub fn processes(mem: &[u32], out: &mut [u8], at: usize) -> usize
     requires table { Table mem.now }
     requires reaches { Reaches out.old at (length (group_bits process_bits (policy_of mem.now).processes)) }
@@ -94,6 +97,7 @@ pub fn assignments(mem: &[u32], out: &mut [u8], at: usize) -> usize
 }
 
 // Writes the associations: the low 18 bits of the first word of each, and its rights.
+#[tactic(auto, using(crate::proofs::Turns::association_first, crate::proofs::Turns::association_second))]
 pub fn associations(mem: &[u32], out: &mut [u8], at: usize) -> usize
     requires table { Table mem.now }
     requires reaches { Reaches out.old at (length (group_bits association_bits (policy_of mem.now).associations)) }
@@ -121,6 +125,7 @@ fn limits(mem: &[u32], start: usize, out: &mut [u8], at: usize) -> usize
 }
 
 // Writes prohibition i: its first three words, its ids.
+#[tactic(auto, using(crate::proofs::Turns::prohibition_rest))]
 fn prohibition(mem: &[u32], i: usize, out: &mut [u8], at: usize) -> usize
     requires table { Table mem.now }
     requires i_bound { i < prohibition_count mem.now }
@@ -134,6 +139,7 @@ fn prohibition(mem: &[u32], i: usize, out: &mut [u8], at: usize) -> usize
 }
 
 // Writes the prohibitions.
+#[tactic(auto, using(crate::proofs::Turns::prohibitions_room))]
 pub fn prohibitions(mem: &[u32], out: &mut [u8], at: usize) -> usize
     requires table { Table mem.now }
     requires reaches { Reaches out.old at (length (group_bits prohibition_bits (policy_of mem.now).prohibitions)) }

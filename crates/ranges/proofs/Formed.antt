@@ -1,21 +1,16 @@
--- A prohibition of a table: that it is well formed and in range, by its lists as parts of the words.
+-- A prohibition that was read from the table is in range exactly if it is neither ill formed nor out of range.
 -- Assumes nothing.
-use mathlib.Core.Path.{◌≡◌, refl, sym, ◌∙◌}
-use mathlib.Core.Bool.{Bool, not, ◌&&◌, not-not}
-use mathlib.Core.List.{List}
-use Prim.Native.Nat.{ℕ, ◌+◌, ◌*◌, ◌-◌, ◌^◌, ◌<◌}
+use mathlib.Core.Path.{◌≡◌, refl, sym, ap, ◌∙◌}
+use mathlib.Core.Bool.{Bool, true, false, not, ◌&&◌, ◌||◌, not-not}
+use Prim.Native.Nat.{◌^◌, ◌<◌}
 use native.Mathlib.Omega.{arith}
 use native.Mathlib.Decide.{dec_lt}
 use borrow.Author.Tests.{lt-ltb, le-leb, lt-leb, eq-eqb, ne_eqb}
-use lib.ListN.{take, drop}
-use Rattle.model.specs.Policy.{Prohibition, is_right_set}
-use Rattle.model.specs.Sound.{lists_fit}
+use Rattle.std.proofs.Math.Bool.{and-true, and-false}
+use Rattle.model.specs.Lists.{all_of}
+use Rattle.model.specs.Policy.{Prohibition, is_element_id, is_sort, is_form, is_right_set}
+use Rattle.model.specs.Sound.{listed, subject_in_range, lists_fit, prohibition_fits}
 use Rattle.model.specs.Command.{bad_prohibition, ill_formed}
-use Rattle.table.specs.Layout.{prohibition_count, prohibition_start}
-use Rattle.table.specs.View.{inclusion_count, exclusion_count, prohibition_at}
-use Rattle.table.specs.Facts.{Table, AtMost}
-use Rattle.table.proofs.Listed.{inclusion_lent, exclusion_lent}
-use Rattle.store.specs.ProhibitionWords.{prohibition}
 use Rattle.prohibition.proofs.Whole.{bad_whole, ill_whole}
 
 -- a prohibition is well formed exactly if it is not ill formed
@@ -26,24 +21,31 @@ well_formed b h e = elim (dec_lt 0 b.rights) [
   | no l ↦ rw (e, eq-eqb b.rights 0 (omega arith), lt-leb 1 b.rights (omega arith)) refl
 ]
 
--- a prohibition's lists, as parts of the words
-module _ {mem : List ℕ} (t : Table mem) (i : ℕ) (h : i < prohibition_count mem)
-    {n m : ℕ} (few : AtMost (inclusion_count mem (prohibition_start i)) 4 n) (more : AtMost (exclusion_count mem (prohibition_start i)) 4 m) where
-  -- it is well formed exactly if its rights and those parts are not ill formed
-  pub form_told : {s : ℕ} → s ≡ (prohibition_at mem i).rights → s < 2 ^ 32 → {r : Bool}
-      → r ≡ ill_formed (prohibition 0 0 0 s (take (5776 + 11 * i + 3 + n - (5776 + 11 * i + 3)) (drop (5776 + 11 * i + 3) mem))
-      (take (5776 + 11 * i + 3 + n + m - (5776 + 11 * i + 3 + n)) (drop (5776 + 11 * i + 3 + n) mem)))
-      → not r ≡ (is_right_set (prohibition_at mem i).rights && lists_fit (prohibition_at mem i))
-  form_told {s} e l q =
-      let b : Prohibition = prohibition_at mem i in
-      let w : ill_formed (prohibition 0 0 0 b.rights b.inclusion b.exclusion) ≡ ill_formed b = sym (ill_whole b.sort b.subject b.form b.rights b.inclusion b.exclusion) in
-      well_formed b (rw e at l) ((rw (inclusion_lent t i h few, exclusion_lent t i h few more, e) at q) ∙ w)
+-- a prohibition fits exactly if it is neither ill formed nor out of range
+fits_by_tests : (b : Prohibition) → b.rights < 2 ^ 32 → {r s : Bool} → r ≡ ill_formed b → s ≡ bad_prohibition b → prohibition_fits b ≡ (not r && not s)
+unfolding prohibition_fits bad_prohibition
+fits_by_tests b h q p =
+    rw (well_formed b h q, p) (six (is_sort b.sort) (subject_in_range b) (is_form b.form) (is_right_set b.rights) (all_of is_element_id (listed b)) (lists_fit b))
+  where
+    six : (s j f r i l : Bool) → (s && j && f && r && i && l) ≡ ((r && l) && not (not s || not f || not j || not i))
+    six false j f r i l = sym (and-false (r && l))
+    six true false true r i l = sym (and-false (r && l))
+    six true false false r i l = sym (and-false (r && l))
+    six true true false r i l = sym (and-false (r && l))
+    six true true true true false l = sym (and-false l)
+    six true true true false false l = refl
+    six true true true true true l = sym (and-true l)
+    six true true true false true l = refl
 
-  -- it is out of range exactly if its sort, its subject, its form and those parts are
-  pub bad_told : {o j f : ℕ} → o ≡ (prohibition_at mem i).sort → j ≡ (prohibition_at mem i).subject → f ≡ (prohibition_at mem i).form → {r : Bool}
-      → r ≡ bad_prohibition (prohibition o j f 0 (take (5776 + 11 * i + 3 + n - (5776 + 11 * i + 3)) (drop (5776 + 11 * i + 3) mem))
-      (take (5776 + 11 * i + 3 + n + m - (5776 + 11 * i + 3 + n)) (drop (5776 + 11 * i + 3 + n) mem)))
-      → r ≡ bad_prohibition (prohibition_at mem i)
-  bad_told eo ej ef q =
-      let b : Prohibition = prohibition_at mem i in
-      (rw (inclusion_lent t i h few, exclusion_lent t i h few more, eo, ej, ef) at q) ∙ sym (bad_whole b.sort b.subject b.form b.rights b.inclusion b.exclusion)
+-- the prohibition that was read, asked with zeros for what plays no part
+module _ {a b : Prohibition} (e : a ≡ b) (l : a.rights < 2 ^ 32) {r : Bool} (q : r ≡ ill_formed (record a { sort = 0; subject = 0; form = 0 })) where
+  fits_told : {s : Bool} → s ≡ bad_prohibition a → prohibition_fits b ≡ (not r && not s)
+  fits_told p = ap prohibition_fits (sym e) ∙ fits_by_tests a l (q ∙ sym (ill_whole a)) p
+
+  -- it is ill formed
+  pub ill_told : r ≡ true → not r ≡ prohibition_fits b
+  ill_told h = rw (fits_told refl, h) refl
+
+  -- or else it is out of range, or neither
+  pub bad_told : r ≡ false → {s : Bool} → s ≡ bad_prohibition (record a { rights = 0 }) → not s ≡ prohibition_fits b
+  bad_told h p = rw (fits_told (p ∙ sym (bad_whole a)), h) refl

@@ -1,7 +1,7 @@
 -- The prohibitions of a table in their order: one and the next by those of its words that count, and all of them.
 -- Assumes nothing.
 use mathlib.Core.Path.{◌≡◌, refl, sym, ap, ap₂, ◌∙◌}
-use mathlib.Core.Bool.{Bool, ◌&&◌}
+use mathlib.Core.Bool.{Bool, true, ◌&&◌}
 use mathlib.Core.List.{List, map}
 use Prim.Native.Nat.{ℕ, zero, suc, ◌+◌, ◌*◌, ◌-◌, ◌/◌, ◌%◌, ◌≤◌, ◌<◌}
 use native.Mathlib.Omega.{arith}
@@ -12,7 +12,7 @@ use Rattle.model.specs.Policy.{Prohibition, prohibition_fields}
 use Rattle.table.specs.Layout.{word, prohibition_count, prohibition_start}
 use Rattle.table.specs.View.{inclusion_count, exclusion_count, policy_of}
 use Rattle.table.specs.Facts.{Table, AtMost}
-use Rattle.table.proofs.Tabled.{in_tabulate}
+use Rattle.table.proofs.Tabled.{in_tabulate, rising_tabulate}
 use Rattle.group.specs.Group.{group}
 use Rattle.group.proofs.Records.{records_at, tabulate_alike}
 use Rattle.group.proofs.Kept.{wide_group}
@@ -75,6 +75,18 @@ module _ {mem : List ℕ} (t : Table mem) where
       ∙ ap (λ (m : ℕ). before (take m r) (take m s)) e
       ∙ fronts_order r s (w.each r a) (w.each s b) (group_short t r a) (group_short t s b)
 
+-- the first i prohibitions rise
+pub record RiseTo (mem : List ℕ) (i : ℕ) : Type 0 where
+  pub some : 1 ≤ i
+  pub each : (k : ℕ) → suc k < i → in_order mem k ≡ true
+
+-- where all have been looked at and found in order, they rise
+pub prohibitions_rise : {mem : List ℕ} → Table mem → {n : ℕ} → n ≡ prohibition_count mem → {i : ℕ} → RiseTo mem i → n ≤ i
+    → true ≡ rising prohibition_fields (policy_of mem).prohibitions
+unfolding in_order
+prohibitions_rise {mem} t {n} count {i} s h = sym (ap (rising prohibition_fields) (recorded t)
+    ∙ rising_tabulate prohibition_fields (prohibition_count mem) (recorded_at mem) (λ k l. s.each k (omega arith)))
+
 -- prohibition i is before the next, by the words of it that count
 unfoldable pub is_next : List ℕ → (i : ℕ) → Bool
 is_next mem i = before_next mem (5776 + 11 * i) 11 (3 + (inclusion_count mem (prohibition_start i) + exclusion_count mem (prohibition_start i)))
@@ -95,7 +107,7 @@ module _ {mem : List ℕ} (t : Table mem) where
       ∙ sym (rising_each prohibition_fields m (recorded_at mem)))
 
   -- the prohibitions rise exactly if each is before the next
-  pub prohibitions_rise : {n : ℕ} → n ≡ prohibition_count mem → {r : Bool}
+  pub prohibitions_rise_if : {n : ℕ} → n ≡ prohibition_count mem → {r : Bool}
       → r ≡ all_of (λ (b : Bool). b) (tabulate (n - 1) (λ j. is_next mem (1 + j - 1))) → r ≡ rising prohibition_fields (policy_of mem).prohibitions
-  prohibitions_rise {n} count is =
+  prohibitions_rise_if {n} count is =
       is ∙ all_told n count ∙ ap (λ (k : ℕ). rising prohibition_fields (tabulate k (recorded_at mem))) count ∙ ap (rising prohibition_fields) (sym (recorded t))

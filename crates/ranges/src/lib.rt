@@ -1,11 +1,10 @@
 // Whether a table breaks a rule that can be seen from the fields of its records alone: a field out of range, or a group that does not rise.
 #![tactic(auto)]
 
-ghost use Rattle.std.specs.Prelude.{◌≡◌, ◌&&◌, ◌+◌, ◌*◌, ◌≤◌, ◌<◌, length};
+ghost use Rattle.std.specs.Prelude.{◌≡◌, ◌+◌, ◌*◌, ◌≤◌, ◌<◌, length};
 ghost use Rattle.model.specs.Lists.{all_of, rising};
-ghost use Rattle.model.specs.Policy.{is_right_set, prohibition_fields};
-ghost use Rattle.model.specs.Sound.{lists_fit, assignment_fits, association_fits, prohibition_fits};
-ghost use Rattle.model.specs.Command.{bad_prohibition};
+ghost use Rattle.model.specs.Policy.{prohibition_fields};
+ghost use Rattle.model.specs.Sound.{assignment_fits, association_fits, prohibition_fits};
 ghost use Rattle.model.specs.Image.{breaks_rule};
 ghost use Rattle.table.specs.Layout.{association_count, prohibition_count, prohibition_start};
 ghost use Rattle.table.specs.View.{inclusion_count, exclusion_count, policy_of, association_at, prohibition_at};
@@ -20,6 +19,7 @@ const ASSOCIATION: usize = 2;
 const PROHIBITION: usize = 11;
 
 // Whether the record at a place is before the one a stride behind it, by the first `key` words of each.
+#[tactic(auto, using(crate::proofs::InOrder::next_decides))]
 fn is_before_next(mem: &[u32], at: usize, stride: usize, key: usize) -> bool
     requires mem_len { length mem.now ≡ 8192 }
     requires key_bound { at + stride + key ≤ 8192 }
@@ -29,6 +29,7 @@ fn is_before_next(mem: &[u32], at: usize, stride: usize, key: usize) -> bool
 }
 
 // Whether the n records of `stride` words from `base` on strictly rise.
+#[tactic(auto, using(crate::proofs::InOrder::rise_start, crate::proofs::InOrder::rise_fails, crate::proofs::InOrder::rise_more, crate::proofs::InOrder::rise_all))]
 fn are_rising(mem: &[u32], base: usize, stride: usize, n: usize) -> bool
     requires mem_len { length mem.now ≡ 8192 }
     requires n_bound { base + stride * n ≤ 8192 }
@@ -92,48 +93,14 @@ fn are_associations_in_range(mem: &[u32]) -> bool
     (0..n).all(|i| is_association_in_range(mem, i))
 }
 
-// Whether prohibition i has a right and its lists are as they must be. A prohibition's ids stand behind its first three words.
-fn is_prohibition_well_formed(mem: &[u32], i: usize) -> bool
-    requires table { Table mem.now }
-    requires i_bound { i < prohibition_count mem.now }
-    ensures { result ≡ (is_right_set (prohibition_at mem.now i).rights && lists_fit (prohibition_at mem.now i)) }
-{
-    let from = PROHIBITIONS + PROHIBITION * i + 3;
-    let middle = from + table::inclusion_count_at(mem, i);
-    let to = middle + table::exclusion_count_at(mem, i);
-    !prohibition::is_ill_formed(
-        table::prohibition_rights_at(mem, i),
-        &mem[from..middle],
-        &mem[middle..to],
-    )
-}
-
-// Whether the sort, the subject, the form or a listed id of prohibition i is out of range.
-fn is_prohibition_out_of_range(mem: &[u32], i: usize) -> bool
-    requires table { Table mem.now }
-    requires i_bound { i < prohibition_count mem.now }
-    ensures { result ≡ bad_prohibition (prohibition_at mem.now i) }
-{
-    let from = PROHIBITIONS + PROHIBITION * i + 3;
-    let middle = from + table::inclusion_count_at(mem, i);
-    let to = middle + table::exclusion_count_at(mem, i);
-    prohibition::is_out_of_range(
-        table::sort_at(mem, i),
-        table::subject_at(mem, i),
-        table::form_at(mem, i),
-        &mem[from..middle],
-        &mem[middle..to],
-    )
-}
-
-// Whether the fields of prohibition i are in range and its lists as they must be.
-#[tactic(auto, unfolding(model::specs::Sound::prohibition_fits, model::specs::Command::bad_prohibition))]
+// Whether the fields of prohibition i are in range, it has a right, and its lists are as they must be.
 fn is_prohibition_in_range(mem: &[u32], i: usize) -> bool
     requires table { Table mem.now }
     requires i_bound { i < prohibition_count mem.now }
     ensures { result ≡ prohibition_fits (prohibition_at mem.now i) }
 {
-    is_prohibition_well_formed(mem, i) && !is_prohibition_out_of_range(mem, i)
+    let b = prohibition::stored(mem, i);
+    !prohibition::is_ill_formed(b) && !prohibition::is_out_of_range(b)
 }
 
 // Whether those of each prohibition are.

@@ -9,17 +9,19 @@ ghost use Rattle.model.specs.Command.{create_class, create_element, assign, deas
 ghost use Rattle.answer.specs.Answers.{refusal_in};
 ghost use Rattle.table.specs.View.{policy_of};
 ghost use Rattle.table.specs.Facts.{Table};
-ghost use Rattle.store.specs.ProhibitionWords.{prohibition};
+ghost use Rattle.store.specs.Given.{association_of, prohibition_of};
 ghost use Rattle.refusals.specs.Numbers.{refusal_of, later_refusal};
 
 use answer::Refusal;
 use kinds::{CLASS, USER, USER_ATTRIBUTE};
+use store::{Association, Prohibition};
 use table::{MOST_ASSIGNMENTS, MOST_ASSOCIATIONS, MOST_PROHIBITIONS};
 
 // The published length of the index.
 const INDEX_BYTES: usize = 32768;
 
 // Whether the index has another number of bytes than the published one, or the numbers are bad.
+#[tactic(auto, using(crate::proofs::Ranges::other_length, crate::proofs::Ranges::published_length))]
 fn is_out_of_range(bytes: usize, bad: bool) -> bool
     ensures { result ≡ (not (eqb bytes 32768) || bad) }
 {
@@ -30,6 +32,7 @@ fn is_out_of_range(bytes: usize, bad: bool) -> bool
 }
 
 // Whether one of two ids of elements is out of range.
+#[tactic(auto, using(crate::proofs::Conditions::opposite_both))]
 fn are_bad_ids(x: u32, y: u32) -> bool
     ensures { result ≡ (not (is_element_id x) || not (is_element_id y)) }
 {
@@ -37,6 +40,7 @@ fn are_bad_ids(x: u32, y: u32) -> bool
 }
 
 // Whether a number of create element is out of range.
+#[tactic(auto, using(crate::proofs::Conditions::conditions))]
 fn is_bad_element(id: u32, kind: u32, container: u32) -> bool
     ensures { result ≡ (not (is_element_id id) || not (is_kind kind) || not (is_element_id container)) }
 {
@@ -50,6 +54,7 @@ fn is_bad_element(id: u32, kind: u32, container: u32) -> bool
 }
 
 // Whether the element, or its assignment to the container, is there already.
+#[tactic(auto, using(crate::proofs::Conditions::conditions))]
 fn is_taken(mem: &[u32], id: u32, container: u32) -> bool
     requires table { Table mem.now }
     requires id_bound { id < 512 }
@@ -63,6 +68,7 @@ fn is_taken(mem: &[u32], id: u32, container: u32) -> bool
 }
 
 // Whether an element of this kind can't be created in the container: a class, or a pairing that is not allowed.
+#[tactic(auto, using(crate::proofs::Named::class_unplaceable, crate::proofs::Named::pairing_tells))]
 fn is_unplaceable(mem: &[u32], kind: u32, container: u32) -> bool
     requires { Table mem.now }
     ensures { result ≡ (eqb kind 5 || not (allowed kind (kind_of (policy_of mem.now) container))) }
@@ -74,6 +80,7 @@ fn is_unplaceable(mem: &[u32], kind: u32, container: u32) -> bool
 }
 
 // Whether the kinds of two elements allow that the one is assigned to the other.
+#[tactic(auto, using(crate::proofs::Named::pairing_told))]
 fn may_be_assigned(mem: &[u32], child: u32, container: u32) -> bool
     requires { Table mem.now }
     ensures { result ≡ allowed (kind_of (policy_of mem.now) child) (kind_of (policy_of mem.now) container) }
@@ -82,6 +89,7 @@ fn may_be_assigned(mem: &[u32], child: u32, container: u32) -> bool
 }
 
 // Whether the assignment would close a cycle: the container is the child, or within it.
+#[tactic(auto, using(crate::proofs::Cycles::mark_closes))]
 fn would_close(mem: &[u32], child: u32, container: u32) -> bool
     requires table { Table mem.now }
     requires child_bound { child < 512 }
@@ -93,6 +101,7 @@ fn would_close(mem: &[u32], child: u32, container: u32) -> bool
 }
 
 // Whether an element of the assignment, or the assignment, is not there.
+#[tactic(auto, using(crate::proofs::Conditions::conditions))]
 fn lacks_assignment(mem: &[u32], child: u32, container: u32) -> bool
     requires table { Table mem.now }
     requires child_bound { child < 512 }
@@ -106,19 +115,21 @@ fn lacks_assignment(mem: &[u32], child: u32, container: u32) -> bool
 }
 
 // Whether an element of the association, or the association, is not there.
-fn lacks_association(mem: &[u32], attribute: u32, target: u32, rights: u32) -> bool
+#[tactic(auto, using(crate::proofs::Conditions::conditions))]
+fn lacks_association(mem: &[u32], a: Association) -> bool
     requires table { Table mem.now }
-    requires attribute_bound { attribute < 512 }
-    requires target_bound { target < 512 }
-    ensures { result ≡ (not (is_there (policy_of mem.now) attribute) || not (is_there (policy_of mem.now) target) || not (has_association (policy_of mem.now) (record { attribute = attribute; target = target; rights = rights }))) }
+    requires attribute_bound { a.attribute < 512 }
+    requires target_bound { a.target < 512 }
+    ensures { result ≡ (not (is_there (policy_of mem.now) a.attribute) || not (is_there (policy_of mem.now) a.target) || not (has_association (policy_of mem.now) (association_of a))) }
 {
-    if !table::are_there(mem, attribute, target) {
+    if !table::are_there(mem, a.attribute, a.target) {
         return true;
     }
-    !store::has_association(mem, attribute, target, rights)
+    !store::has_association(mem, a)
 }
 
 // Whether element x is of kind k.
+#[tactic(auto, using(crate::proofs::Named::kind_told))]
 fn is_of_kind(mem: &[u32], x: u32, k: u32) -> bool
     requires { Table mem.now }
     ensures { result ≡ eqb (kind_of (policy_of mem.now) x) k }
@@ -127,6 +138,7 @@ fn is_of_kind(mem: &[u32], x: u32, k: u32) -> bool
 }
 
 // Whether process i is there.
+#[tactic(auto, using(crate::proofs::Named::process_told))]
 fn is_process(mem: &[u32], i: u32) -> bool
     requires { Table mem.now }
     ensures { result ≡ is_process (policy_of mem.now) i }
@@ -142,6 +154,7 @@ fn is_empty(rights: u32) -> bool
 }
 
 // Whether the kinds are those of an association's ends: a user attribute, and an attribute.
+#[tactic(auto, using(crate::proofs::Named::other_ends, crate::proofs::Named::target_tells))]
 fn may_be_associated(mem: &[u32], attribute: u32, target: u32) -> bool
     requires { Table mem.now }
     ensures { result ≡ association_pairs (policy_of mem.now) (record { attribute = attribute; target = target; rights = 0 }) }
@@ -153,28 +166,21 @@ fn may_be_associated(mem: &[u32], attribute: u32, target: u32) -> bool
 }
 
 // Whether what the prohibition names, or the prohibition, is not there.
-fn lacks_prohibition(
-    mem: &[u32],
-    sort: u32,
-    subject: u32,
-    form: u32,
-    rights: u32,
-    inclusion: &[u32],
-    exclusion: &[u32],
-) -> bool
+fn lacks_prohibition(mem: &[u32], b: Prohibition) -> bool
     requires table { Table mem.now }
-    requires sort_bound { sort ≤ 3 }
-    requires subject_bound { subject < 512 }
-    requires form_bound { form ≤ 1 }
-    ensures { result ≡ (absent_in (policy_of mem.now) (prohibition sort subject form rights inclusion.now exclusion.now) || not (has_prohibition (policy_of mem.now) (prohibition sort subject form rights inclusion.now exclusion.now))) }
+    requires sort_bound { b.sort ≤ 3 }
+    requires subject_bound { b.subject < 512 }
+    requires form_bound { b.form ≤ 1 }
+    ensures { result ≡ (absent_in (policy_of mem.now) (prohibition_of b.entry) || not (has_prohibition (policy_of mem.now) (prohibition_of b.entry))) }
 {
-    if prohibition::names_absent(mem, sort, subject, inclusion, exclusion) {
+    if prohibition::names_absent(mem, b) {
         return true;
     }
-    !prohibition::is_there(mem, sort, subject, form, rights, inclusion, exclusion)
+    !prohibition::is_there(mem, b)
 }
 
 // Whether there are as many assignments as there can be.
+#[tactic(auto, using(crate::proofs::Limits::assignments_full))]
 fn is_full_of_assignments(mem: &[u32]) -> bool
     requires { Table mem.now }
     ensures { result ≡ full_of_assignments (policy_of mem.now) }
@@ -183,6 +189,7 @@ fn is_full_of_assignments(mem: &[u32]) -> bool
 }
 
 // The same of associations.
+#[tactic(auto, using(crate::proofs::Limits::associations_full))]
 fn is_full_of_associations(mem: &[u32]) -> bool
     requires { Table mem.now }
     ensures { result ≡ full_of_associations (policy_of mem.now) }
@@ -191,6 +198,7 @@ fn is_full_of_associations(mem: &[u32]) -> bool
 }
 
 // The same of prohibitions.
+#[tactic(auto, using(crate::proofs::Limits::prohibitions_full))]
 fn is_full_of_prohibitions(mem: &[u32]) -> bool
     requires { Table mem.now }
     ensures { result ≡ full_of_prohibitions (policy_of mem.now) }
@@ -199,6 +207,7 @@ fn is_full_of_prohibitions(mem: &[u32]) -> bool
 }
 
 // Whether a number of start process is out of range.
+#[tactic(auto, using(crate::proofs::Conditions::conditions))]
 fn is_bad_process(id: u32, user: u32) -> bool
     ensures { result ≡ (not (is_process_id id) || not (is_element_id user)) }
 {
@@ -209,6 +218,7 @@ fn is_bad_process(id: u32, user: u32) -> bool
 }
 
 // Create class.
+#[tactic(auto, using(crate::proofs::Lines::lines, crate::proofs::Ranges::range_not, table::proofs::Asked::tested), unfolding(crate::specs::Numbers::refusal_of, model::specs::Command::command_lines))]
 pub fn create_class(mem: &[u32], bytes: usize, id: u32) -> Result<(), Refusal>
     ensures { refusal_in result ≡ refusal_of mem.now bytes (create_class id) }
 {
@@ -225,6 +235,7 @@ pub fn create_class(mem: &[u32], bytes: usize, id: u32) -> Result<(), Refusal>
 }
 
 // Create element, the table and the numbers being right.
+#[tactic(auto, using(crate::proofs::Lines::lines), unfolding(crate::specs::Numbers::later_refusal, model::specs::Command::command_lines))]
 fn create_element_in(mem: &[u32], id: u32, kind: u32, container: u32) -> Result<(), Refusal>
     requires table { Table mem.now }
     requires id_bound { id < 512 }
@@ -247,6 +258,7 @@ fn create_element_in(mem: &[u32], id: u32, kind: u32, container: u32) -> Result<
 }
 
 // Create element.
+#[tactic(auto, using(crate::proofs::Lines::lines, crate::proofs::Ranges::range_any, table::proofs::Asked::tested, crate::proofs::Ranges::element_id, crate::proofs::Ranges::container_id), unfolding(crate::specs::Numbers::refusal_of, model::specs::Command::command_lines, crate::specs::Numbers::later_refusal))]
 pub fn create_element(
     mem: &[u32],
     bytes: usize,
@@ -266,6 +278,7 @@ pub fn create_element(
 }
 
 // Assign, the table and the ids being right.
+#[tactic(auto, using(crate::proofs::Lines::lines), unfolding(crate::specs::Numbers::later_refusal, model::specs::Command::command_lines))]
 fn assign_in(mem: &[u32], child: u32, container: u32) -> Result<(), Refusal>
     requires table { Table mem.now }
     requires child_bound { child < 512 }
@@ -291,6 +304,7 @@ fn assign_in(mem: &[u32], child: u32, container: u32) -> Result<(), Refusal>
 }
 
 // Assign.
+#[tactic(auto, using(crate::proofs::Lines::lines, crate::proofs::Ranges::range_either, table::proofs::Asked::tested, crate::proofs::Ranges::first_id, crate::proofs::Ranges::second_id), unfolding(crate::specs::Numbers::refusal_of, model::specs::Command::command_lines, crate::specs::Numbers::later_refusal))]
 pub fn assign(mem: &[u32], bytes: usize, child: u32, container: u32) -> Result<(), Refusal>
     ensures { refusal_in result ≡ refusal_of mem.now bytes (assign child container) }
 {
@@ -304,6 +318,7 @@ pub fn assign(mem: &[u32], bytes: usize, child: u32, container: u32) -> Result<(
 }
 
 // Deassign.
+#[tactic(auto, using(crate::proofs::Lines::lines, crate::proofs::Ranges::range_either, table::proofs::Asked::tested, crate::proofs::Ranges::first_id, crate::proofs::Ranges::second_id), unfolding(crate::specs::Numbers::refusal_of, model::specs::Command::command_lines))]
 pub fn deassign(mem: &[u32], bytes: usize, child: u32, container: u32) -> Result<(), Refusal>
     ensures { refusal_in result ≡ refusal_of mem.now bytes (deassign child container) }
 {
@@ -326,6 +341,7 @@ pub fn deassign(mem: &[u32], bytes: usize, child: u32, container: u32) -> Result
 }
 
 // Delete element.
+#[tactic(auto, using(crate::proofs::Lines::lines, crate::proofs::Ranges::range_not, table::proofs::Asked::tested), unfolding(crate::specs::Numbers::refusal_of, model::specs::Command::command_lines))]
 pub fn delete_element(mem: &[u32], bytes: usize, id: u32) -> Result<(), Refusal>
     ensures { refusal_in result ≡ refusal_of mem.now bytes (delete_element id) }
 {
@@ -345,27 +361,23 @@ pub fn delete_element(mem: &[u32], bytes: usize, id: u32) -> Result<(), Refusal>
 }
 
 // Create association, the table and the ids being right.
-fn create_association_in(
-    mem: &[u32],
-    attribute: u32,
-    target: u32,
-    rights: u32,
-) -> Result<(), Refusal>
+#[tactic(auto, using(crate::proofs::Lines::lines), unfolding(crate::specs::Numbers::later_refusal, model::specs::Command::command_lines, model::specs::Sound::association_pairs))]
+fn create_association_in(mem: &[u32], a: Association) -> Result<(), Refusal>
     requires table { Table mem.now }
-    requires attribute_bound { attribute < 512 }
-    requires target_bound { target < 512 }
-    ensures { refusal_in result ≡ later_refusal (policy_of mem.now) (create_association (record { attribute = attribute; target = target; rights = rights })) }
+    requires attribute_bound { a.attribute < 512 }
+    requires target_bound { a.target < 512 }
+    ensures { refusal_in result ≡ later_refusal (policy_of mem.now) (create_association (association_of a)) }
 {
-    if store::has_association(mem, attribute, target, rights) {
+    if store::has_association(mem, a) {
         return Err(Refusal::AlreadyThere);
     }
-    if !table::are_there(mem, attribute, target) {
+    if !table::are_there(mem, a.attribute, a.target) {
         return Err(Refusal::NotThere);
     }
-    if !may_be_associated(mem, attribute, target) {
+    if !may_be_associated(mem, a.attribute, a.target) {
         return Err(Refusal::WrongKind);
     }
-    if is_empty(rights) {
+    if is_empty(a.rights) {
         return Err(Refusal::IllFormed);
     }
     if is_full_of_associations(mem) {
@@ -375,78 +387,60 @@ fn create_association_in(
 }
 
 // Create association.
-pub fn create_association(
-    mem: &[u32],
-    bytes: usize,
-    attribute: u32,
-    target: u32,
-    rights: u32,
-) -> Result<(), Refusal>
-    ensures { refusal_in result ≡ refusal_of mem.now bytes (create_association (record { attribute = attribute; target = target; rights = rights })) }
+#[tactic(auto, using(crate::proofs::Lines::lines, crate::proofs::Ranges::range_either, table::proofs::Asked::tested, crate::proofs::Ranges::first_id, crate::proofs::Ranges::second_id), unfolding(crate::specs::Numbers::refusal_of, model::specs::Command::command_lines, crate::specs::Numbers::later_refusal))]
+pub fn create_association(mem: &[u32], bytes: usize, a: Association) -> Result<(), Refusal>
+    ensures { refusal_in result ≡ refusal_of mem.now bytes (create_association (association_of a)) }
 {
     if !table::holds(mem) {
         return Err(Refusal::NoTable);
     }
-    if is_out_of_range(bytes, are_bad_ids(attribute, target)) {
+    if is_out_of_range(bytes, are_bad_ids(a.attribute, a.target)) {
         return Err(Refusal::OutOfRange);
     }
-    create_association_in(mem, attribute, target, rights)
+    create_association_in(mem, a)
 }
 
 // Delete association.
-pub fn delete_association(
-    mem: &[u32],
-    bytes: usize,
-    attribute: u32,
-    target: u32,
-    rights: u32,
-) -> Result<(), Refusal>
-    ensures { refusal_in result ≡ refusal_of mem.now bytes (delete_association (record { attribute = attribute; target = target; rights = rights })) }
+#[tactic(auto, using(crate::proofs::Lines::lines, crate::proofs::Ranges::range_either, table::proofs::Asked::tested, crate::proofs::Ranges::first_id, crate::proofs::Ranges::second_id), unfolding(crate::specs::Numbers::refusal_of, model::specs::Command::command_lines, model::specs::Sound::association_pairs))]
+pub fn delete_association(mem: &[u32], bytes: usize, a: Association) -> Result<(), Refusal>
+    ensures { refusal_in result ≡ refusal_of mem.now bytes (delete_association (association_of a)) }
 {
     if !table::holds(mem) {
         return Err(Refusal::NoTable);
     }
-    if is_out_of_range(bytes, are_bad_ids(attribute, target)) {
+    if is_out_of_range(bytes, are_bad_ids(a.attribute, a.target)) {
         return Err(Refusal::OutOfRange);
     }
-    if lacks_association(mem, attribute, target, rights) {
+    if lacks_association(mem, a) {
         return Err(Refusal::NotThere);
     }
-    if !may_be_associated(mem, attribute, target) {
+    if !may_be_associated(mem, a.attribute, a.target) {
         return Err(Refusal::WrongKind);
     }
-    if is_empty(rights) {
+    if is_empty(a.rights) {
         return Err(Refusal::IllFormed);
     }
     Ok(())
 }
 
 // Create prohibition, the table and the numbers being right.
-fn create_prohibition_in(
-    mem: &[u32],
-    sort: u32,
-    subject: u32,
-    form: u32,
-    rights: u32,
-    inclusion: &[u32],
-    exclusion: &[u32],
-) -> Result<(), Refusal>
+fn create_prohibition_in(mem: &[u32], b: Prohibition) -> Result<(), Refusal>
     requires table { Table mem.now }
-    requires sort_bound { sort ≤ 3 }
-    requires subject_bound { subject < 512 }
-    requires form_bound { form ≤ 1 }
-    ensures { refusal_in result ≡ later_refusal (policy_of mem.now) (create_prohibition (prohibition sort subject form rights inclusion.now exclusion.now)) }
+    requires sort_bound { b.sort ≤ 3 }
+    requires subject_bound { b.subject < 512 }
+    requires form_bound { b.form ≤ 1 }
+    ensures { refusal_in result ≡ later_refusal (policy_of mem.now) (create_prohibition (prohibition_of b.entry)) }
 {
-    if prohibition::is_there(mem, sort, subject, form, rights, inclusion, exclusion) {
+    if prohibition::is_there(mem, b) {
         return Err(Refusal::AlreadyThere);
     }
-    if prohibition::names_absent(mem, sort, subject, inclusion, exclusion) {
+    if prohibition::names_absent(mem, b) {
         return Err(Refusal::NotThere);
     }
-    if prohibition::names_other_kind(mem, sort, subject, inclusion, exclusion) {
+    if prohibition::names_other_kind(mem, b) {
         return Err(Refusal::WrongKind);
     }
-    if prohibition::is_ill_formed(rights, inclusion, exclusion) {
+    if prohibition::is_ill_formed(b) {
         return Err(Refusal::IllFormed);
     }
     if is_full_of_prohibitions(mem) {
@@ -456,65 +450,43 @@ fn create_prohibition_in(
 }
 
 // Create prohibition.
-pub fn create_prohibition(
-    mem: &[u32],
-    bytes: usize,
-    sort: u32,
-    subject: u32,
-    form: u32,
-    rights: u32,
-    inclusion: &[u32],
-    exclusion: &[u32],
-) -> Result<(), Refusal>
-    ensures { refusal_in result ≡ refusal_of mem.now bytes (create_prohibition (prohibition sort subject form rights inclusion.now exclusion.now)) }
+#[tactic(auto, using(crate::proofs::Lines::lines, crate::proofs::Prohibitions::bad_told, table::proofs::Asked::tested, crate::proofs::Prohibitions::sort_small, crate::proofs::Prohibitions::subject_small, crate::proofs::Prohibitions::form_small), unfolding(crate::specs::Numbers::refusal_of, model::specs::Command::command_lines, crate::specs::Numbers::later_refusal))]
+pub fn create_prohibition(mem: &[u32], bytes: usize, b: Prohibition) -> Result<(), Refusal>
+    ensures { refusal_in result ≡ refusal_of mem.now bytes (create_prohibition (prohibition_of b.entry)) }
 {
     if !table::holds(mem) {
         return Err(Refusal::NoTable);
     }
-    if is_out_of_range(
-        bytes,
-        prohibition::is_out_of_range(sort, subject, form, inclusion, exclusion),
-    ) {
+    if is_out_of_range(bytes, prohibition::is_out_of_range(b)) {
         return Err(Refusal::OutOfRange);
     }
-    create_prohibition_in(mem, sort, subject, form, rights, inclusion, exclusion)
+    create_prohibition_in(mem, b)
 }
 
 // Delete prohibition.
-pub fn delete_prohibition(
-    mem: &[u32],
-    bytes: usize,
-    sort: u32,
-    subject: u32,
-    form: u32,
-    rights: u32,
-    inclusion: &[u32],
-    exclusion: &[u32],
-) -> Result<(), Refusal>
-    ensures { refusal_in result ≡ refusal_of mem.now bytes (delete_prohibition (prohibition sort subject form rights inclusion.now exclusion.now)) }
+pub fn delete_prohibition(mem: &[u32], bytes: usize, b: Prohibition) -> Result<(), Refusal>
+    ensures { refusal_in result ≡ refusal_of mem.now bytes (delete_prohibition (prohibition_of b.entry)) }
 {
     if !table::holds(mem) {
         return Err(Refusal::NoTable);
     }
-    if is_out_of_range(
-        bytes,
-        prohibition::is_out_of_range(sort, subject, form, inclusion, exclusion),
-    ) {
+    if is_out_of_range(bytes, prohibition::is_out_of_range(b)) {
         return Err(Refusal::OutOfRange);
     }
-    if lacks_prohibition(mem, sort, subject, form, rights, inclusion, exclusion) {
+    if lacks_prohibition(mem, b) {
         return Err(Refusal::NotThere);
     }
-    if prohibition::names_other_kind(mem, sort, subject, inclusion, exclusion) {
+    if prohibition::names_other_kind(mem, b) {
         return Err(Refusal::WrongKind);
     }
-    if prohibition::is_ill_formed(rights, inclusion, exclusion) {
+    if prohibition::is_ill_formed(b) {
         return Err(Refusal::IllFormed);
     }
     Ok(())
 }
 
 // Start process.
+#[tactic(auto, using(crate::proofs::Lines::lines, crate::proofs::Ranges::range_either, table::proofs::Asked::tested), unfolding(crate::specs::Numbers::refusal_of, model::specs::Command::command_lines))]
 pub fn start_process(mem: &[u32], bytes: usize, id: u32, user: u32) -> Result<(), Refusal>
     ensures { refusal_in result ≡ refusal_of mem.now bytes (start_process id user) }
 {
@@ -537,6 +509,7 @@ pub fn start_process(mem: &[u32], bytes: usize, id: u32, user: u32) -> Result<()
 }
 
 // End process.
+#[tactic(auto, using(crate::proofs::Lines::lines, crate::proofs::Ranges::range_not, table::proofs::Asked::tested), unfolding(crate::specs::Numbers::refusal_of, model::specs::Command::command_lines))]
 pub fn end_process(mem: &[u32], bytes: usize, id: u32) -> Result<(), Refusal>
     ensures { refusal_in result ≡ refusal_of mem.now bytes (end_process id) }
 {

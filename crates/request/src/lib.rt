@@ -61,6 +61,7 @@ const ASSOC_FROM: u32 = 2048;
 const ASSOC_TO: u32 = 4096;
 
 // The kinds that each argument of an operation may be of, 0 where there is no such argument.
+#[tactic(auto, using(crate::proofs::Operations::kinds_listed))]
 fn kinds_of(operation: u32) -> [u32; 3]
     requires { operation ≤ 9 }
     ensures { result ≡ kind_sets operation }
@@ -81,6 +82,7 @@ fn kinds_of(operation: u32) -> [u32; 3]
 }
 
 // The alternatives of an operation, each a set of rights for each argument. A second alternative that asks nothing is none.
+#[tactic(auto, using(crate::proofs::Operations::rights_listed))]
 pub fn required(operation: u32) -> [[u32; 3]; 2]
     requires { operation ≤ 9 }
     ensures { result ≡ capabilities operation }
@@ -101,6 +103,7 @@ pub fn required(operation: u32) -> [[u32; 3]; 2]
 }
 
 // n is the number of an operation, 1 to 9.
+#[tactic(auto, using(crate::proofs::Refused::operation_zero, crate::proofs::Refused::operation_rest))]
 fn is_operation(n: u32) -> bool
     ensures { result ≡ is_operation n }
 {
@@ -111,6 +114,7 @@ fn is_operation(n: u32) -> bool
 }
 
 // Whether an argument that is used is no id of an element, or one that is not used is not 0.
+#[tactic(auto, using(crate::proofs::Arguments::bad_unused, crate::proofs::Arguments::bad_used))]
 fn is_bad(kinds: u32, e: u32) -> bool
     ensures { result ≡ is_bad kinds e }
 {
@@ -121,6 +125,7 @@ fn is_bad(kinds: u32, e: u32) -> bool
 }
 
 // Whether an argument that is used is not there.
+#[tactic(auto, using(crate::proofs::Arguments::absent_unused, crate::proofs::Arguments::absent_used))]
 fn is_absent(mem: &[u32], kinds: u32, e: u32) -> bool
     requires { Table mem.now }
     ensures { result ≡ is_absent (policy_of mem.now) kinds e }
@@ -132,6 +137,7 @@ fn is_absent(mem: &[u32], kinds: u32, e: u32) -> bool
 }
 
 // Whether an argument that is used is of another kind.
+#[tactic(auto, using(crate::proofs::Arguments::wrong_unused, crate::proofs::Arguments::wrong_used))]
 fn is_wrong(mem: &[u32], kinds: u32, e: u32) -> bool
     requires { Table mem.now }
     ensures { result ≡ is_wrong (policy_of mem.now) kinds e }
@@ -143,6 +149,7 @@ fn is_wrong(mem: &[u32], kinds: u32, e: u32) -> bool
 }
 
 // Whether some argument is bad.
+#[tactic(auto, using(crate::proofs::Arguments::bad_first, crate::proofs::Arguments::bad_second, crate::proofs::Arguments::bad_third))]
 fn are_bad(kinds: [u32; 3], q: Request) -> bool
     requires { kinds ≡ kind_sets q.operation }
     ensures { result ≡ bad_arguments (kinds_of (request_of q)) (arguments_of (request_of q)) }
@@ -157,6 +164,7 @@ fn are_bad(kinds: [u32; 3], q: Request) -> bool
 }
 
 // Whether some argument that is used is not there.
+#[tactic(auto, using(crate::proofs::Arguments::absent_first, crate::proofs::Arguments::absent_second, crate::proofs::Arguments::absent_third))]
 fn are_absent(mem: &[u32], kinds: [u32; 3], q: Request) -> bool
     requires table { Table mem.now }
     requires kinds_value { kinds ≡ kind_sets q.operation }
@@ -172,6 +180,7 @@ fn are_absent(mem: &[u32], kinds: [u32; 3], q: Request) -> bool
 }
 
 // Whether some argument that is used is of another kind.
+#[tactic(auto, using(crate::proofs::Arguments::wrong_first, crate::proofs::Arguments::wrong_second, crate::proofs::Arguments::wrong_third))]
 fn are_wrong(mem: &[u32], kinds: [u32; 3], q: Request) -> bool
     requires table { Table mem.now }
     requires kinds_value { kinds ≡ kind_sets q.operation }
@@ -187,6 +196,7 @@ fn are_wrong(mem: &[u32], kinds: [u32; 3], q: Request) -> bool
 }
 
 // Whether the process and the operation are in range.
+#[tactic(auto, using(crate::proofs::Refused::call_process, crate::proofs::Refused::call_operation))]
 fn is_in_range(q: Request) -> bool
     ensures { result ≡ (is_process_id q.process && is_operation q.operation) }
 {
@@ -197,6 +207,7 @@ fn is_in_range(q: Request) -> bool
 }
 
 // Whether the process, or an argument that is used, is not there.
+#[tactic(auto, using(crate::proofs::Refused::absent_process, crate::proofs::Refused::absent_arguments_lem))]
 fn names_absent(mem: &[u32], kinds: [u32; 3], q: Request) -> bool
     requires table { Table mem.now }
     requires kinds_value { kinds ≡ kind_sets q.operation }
@@ -209,6 +220,7 @@ fn names_absent(mem: &[u32], kinds: [u32; 3], q: Request) -> bool
 }
 
 // The request's refusal, where it is refused: 2, then 4, then 5, each over all that the request names.
+#[tactic(auto, using(crate::proofs::Refused::gives_2_first, crate::proofs::Refused::operation_told, crate::proofs::Refused::gives_2, crate::proofs::Refused::gives_4, crate::proofs::Refused::gives_5, crate::proofs::Refused::gives_none))]
 pub fn refusal(mem: &[u32], q: Request) -> Result<(), Refusal>
     requires { Table mem.now }
     ensures { refusal_in result ≡ refusal_of mem.now q }

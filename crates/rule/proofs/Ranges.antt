@@ -3,7 +3,7 @@
 use mathlib.Core.Path.{◌≡◌, refl, sym, ap, ◌∙◌}
 use mathlib.Core.Bool.{Bool, true, false, not, cond, beq}
 use mathlib.Core.List.{List}
-use Prim.Native.Nat.{ℕ}
+use Prim.Native.Nat.{ℕ, ◌+◌, ◌≤◌, ◌<◌}
 use native.Mathlib.Omega.{arith}
 use borrow.Author.Tests.{eq-eqb, ne_eqb}
 use Rattle.model.specs.Lists.{any_of}
@@ -13,18 +13,56 @@ use Rattle.table.specs.Layout.{word, prohibition_start}
 use Rattle.table.specs.View.{inclusion_count, exclusion_count, prohibition_at}
 use Rattle.table.specs.Facts.{AtMost}
 use Rattle.rule.specs.Parts.{any_listed}
-use Rattle.table.proofs.Loops.{any_alike, all_unless, none_unless}
+use Rattle.table.proofs.Loops.{any_none, any_not_yet, any_found, any_end, any_alike, all_unless, none_unless}
 
 -- the row says so of an id, or says not so
 abbrev pub says : (E : ℕ → Bool) (so : Bool) → ℕ → Bool
 says E so y = cond so (E y) (not (E y))
 
--- what a test compares
-pub compared : (so b : Bool) → beq b so ≡ cond so b (not b)
-compared true true = refl
-compared true false = refl
-compared false true = refl
-compared false false = refl
+-- what a test tells
+pub tested : (so b : Bool) → beq b so ≡ cond so b (not b)
+tested true true = refl
+tested true false = refl
+tested false true = refl
+tested false false = refl
+
+-- the loop over the ids that a prohibition lists
+module _ (E : ℕ → Bool) (so : Bool) (mem : List ℕ) (start from : ℕ) where
+  -- id k of those
+  abbrev id : ℕ → ℕ
+  id k = word mem (start + 3 + (from + k))
+
+  -- none before the first
+  pub listed_none : any_listed E so mem start from 0 ≡ false
+  unfolding any_listed
+  listed_none = any_none (says E so) id
+
+  -- nothing else is at the end
+  pub listed_end : (n k : ℕ) → k ≤ n → n ≤ k → any_listed E so mem start from k ≡ false → false ≡ any_listed E so mem start from n
+  unfolding any_listed
+  listed_end n k = any_end (says E so) id n k
+
+  -- id k
+  module _ (k : ℕ) {y : ℕ} (listed : y ≡ id k) {b : Bool} (sees : b ≡ E y) where
+    -- what the test compares
+    compared : says E so (id k) ≡ beq b so
+    compared = rw (← listed, ← sees) (same so b)
+      where
+        same : (s x : Bool) → cond s x (not x) ≡ beq x s
+        same true true = refl
+        same true false = refl
+        same false true = refl
+        same false false = refl
+
+    -- it is one
+    pub listed_found : (n : ℕ) → k < n → beq b so ≡ true → true ≡ any_listed E so mem start from n
+    unfolding any_listed
+    listed_found n l h = any_found (says E so) id n k l (compared ∙ h)
+
+    -- it is none
+    pub listed_more : any_listed E so mem start from k ≡ false → beq b so ≡ false → any_listed E so mem start from (k + 1) ≡ false
+    unfolding any_listed
+    listed_more none h = any_not_yet (says E so) id k none (compared ∙ h)
 
 -- the ids of a prohibition as its two lists, and the two forms over them
 module _ (E : ℕ → Bool) (mem : List ℕ) (i : ℕ) {n : ℕ} (few : AtMost (inclusion_count mem (prohibition_start i)) 4 n) where

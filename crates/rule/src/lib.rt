@@ -23,6 +23,7 @@ pub struct Asking {
 }
 
 // Mark y of row x, a bit in 64 bytes a row.
+#[tactic(auto, using(crate::proofs::Sighted::mark_read, crate::proofs::Sighted::mark_far))]
 fn mark(rows: &[u8], x: u32, y: u32) -> bool
     ensures { result ≡ mark_at rows.now x y }
 {
@@ -97,6 +98,7 @@ impl Sight for Climbed<'_> {
 }
 
 // Whether right r is in the set.
+#[tactic(auto, using(crate::proofs::Sighted::right_read))]
 pub fn has_right(rights: u32, r: u32) -> bool
     requires { r < 32 }
     ensures { result ≡ has_right rights r }
@@ -105,6 +107,7 @@ pub fn has_right(rights: u32, r: u32) -> bool
 }
 
 // Whether c is a class that the element of row x is within.
+#[tactic(auto, using(crate::proofs::Parts::class_within, crate::proofs::Parts::class_other))]
 pub fn is_class_of<S: Sight>(mem: &[u32], rows: &S, x: u32, c: u32) -> bool
     requires { Table mem.now }
     ensures { result ≡ class_of (seen (S.rows rows.now) (S.indexed rows.now) x) (policy_of mem.now) c }
@@ -113,6 +116,7 @@ pub fn is_class_of<S: Sight>(mem: &[u32], rows: &S, x: u32, c: u32) -> bool
 }
 
 // Whether association i gives the user the right over the element, in the classes that its target is within.
+#[tactic(auto, using(crate::proofs::Parts::else_is, crate::proofs::Parts::offers_within, crate::proofs::Parts::then_is, crate::proofs::Parts::offers_not))]
 pub fn is_offered<S: Sight>(mem: &[u32], rows: &S, q: Asking, i: usize) -> bool
     requires table { Table mem.now }
     requires i_bound { i < association_count mem.now }
@@ -143,6 +147,7 @@ fn is_any_listed<S: Sight>(
 }
 
 // "within some listed inclusion, or outside some listed exclusion"
+#[tactic(auto, using(crate::proofs::Ranges::disjunctive_within))]
 fn is_in_disjunctive<S: Sight>(mem: &[u32], rows: &S, x: u32, i: usize) -> bool
     requires table { Table mem.now }
     requires i_bound { i < prohibition_count mem.now }
@@ -180,6 +185,7 @@ fn is_in_range<S: Sight>(mem: &[u32], rows: &S, e: u32, x: u32, i: usize) -> boo
 }
 
 // Whether the subject of prohibition i is the process, its user, or an attribute that the user is within.
+#[tactic(auto, using(crate::proofs::Restrictions::subject_user, crate::proofs::Restrictions::subject_process, crate::proofs::Restrictions::subject_attribute, crate::proofs::Restrictions::subject_none))]
 fn is_subject<S: Sight>(mem: &[u32], rows: &S, q: Asking, i: usize) -> bool
     requires table { Table mem.now }
     requires i_bound { i < prohibition_count mem.now }

@@ -19,6 +19,7 @@ const MOST_PROHIBITIONS: usize = 200;
 const MOST_LISTED: u32 = 4;
 
 // Whether the n elements at a place are right: each id above the one before it, the first above 0, each kind 1 to 5.
+#[tactic(auto, using(crate::proofs::Turns::elements_start, crate::proofs::Turns::no_kind))]
 fn are_elements_right(s: &[u8], at: usize, n: usize) -> bool
     requires n_bound { n < 512 }
     requires reaches { Reaches s.now at (12 * n) }
@@ -42,6 +43,7 @@ fn are_elements_right(s: &[u8], at: usize, n: usize) -> bool
 }
 
 // Whether the n processes at a place are right: each id above the one before it, the first above 0, each user's id not 0.
+#[tactic(auto, using(crate::proofs::Turns::processes_start, crate::proofs::Turns::no_user))]
 fn are_processes_right(s: &[u8], at: usize, n: usize) -> bool
     requires n_bound { n < 256 }
     requires reaches { Reaches s.now at (17 * n) }
@@ -65,6 +67,7 @@ fn are_processes_right(s: &[u8], at: usize, n: usize) -> bool
 }
 
 // Whether each of the n prohibitions at a place lists at most four inclusions and at most four exclusions.
+#[tactic(auto, using(crate::proofs::Short::many_inclusions, crate::proofs::Short::all_short_lem))]
 fn are_lists_short(s: &[u8], at: usize, n: usize) -> bool
     requires n_bound { n < 256 }
     requires reaches { Reaches s.now (behind (bits_of s.now) at n) 0 }
@@ -86,6 +89,7 @@ fn are_lists_short(s: &[u8], at: usize, n: usize) -> bool
 }
 
 // Whether no group is past its limit.
+#[tactic(auto, using(crate::proofs::Short::many_assignments, crate::proofs::Short::many_associations, crate::proofs::Short::by_prohibitions))]
 fn is_within_limits(assignments: usize, associations: usize, prohibitions: usize) -> bool
     ensures { result ≡ (leb assignments 2000 && leb associations 1000 && leb prohibitions 200) }
 {
@@ -99,6 +103,7 @@ fn is_within_limits(assignments: usize, associations: usize, prohibitions: usize
 }
 
 // Whether the image's records can be laid into the words of a table.
+#[tactic(auto, using(crate::proofs::Answers::head_reached, crate::proofs::Answers::past_limits, crate::proofs::Answers::prohibitions_reached, crate::proofs::Answers::processes_reached))]
 pub fn is_stowable(s: &[u8]) -> bool
     requires { Uncut s.now }
     ensures { result ≡ stowable (policy_in s.now) }

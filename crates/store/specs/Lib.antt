@@ -1,2 +1,3 @@
 pub mod Words
 pub mod ProhibitionWords
+pub mod Given

@@ -6,7 +6,8 @@ ghost use Rattle.model.specs.Policy.{is_assigned, has_association, has_prohibiti
 ghost use Rattle.table.specs.View.{policy_of};
 ghost use Rattle.table.specs.Facts.{Table};
 ghost use Rattle.table.specs.Answers.{left};
-ghost use Rattle.store.specs.ProhibitionWords.{prohibition, Storable, prohibition_record, without_prohibition, added_prohibition};
+ghost use Rattle.store.specs.Given.{association_of, prohibition_of};
+ghost use Rattle.store.specs.ProhibitionWords.{Storable, prohibition_record, without_prohibition, added_prohibition};
 ghost use Rattle.store.specs.Words.{with_kind, with_user, added_assignment, without_assignment, without_assignments_of, added_association, without_association};
 
 use answer::Refusal;
@@ -15,7 +16,27 @@ use table::{
     MOST_ASSOCIATIONS, MOST_PROHIBITIONS, PROHIBITION_COUNTER, PROHIBITIONS, USERS,
 };
 
+// An association, by its exact triple.
+#[derive(Clone, Copy)]
+pub struct Association {
+    pub attribute: u32,
+    pub target: u32,
+    pub rights: u32,
+}
+
+// A prohibition, by its exact fields. Its lists are lent and may be of any length.
+#[derive(Clone, Copy)]
+pub struct Prohibition<'a> {
+    pub sort: u32,
+    pub subject: u32,
+    pub form: u32,
+    pub rights: u32,
+    pub inclusion: &'a [u32],
+    pub exclusion: &'a [u32],
+}
+
 // Sets the kind of element x; 0 takes the element out.
+#[tactic(auto, using(crate::proofs::Stored::kind_set))]
 pub fn set_kind(mem: &mut [u32], x: u32, kind: u32)
     requires table { Table mem.old }
     requires x_bound { x < 512 }
@@ -26,6 +47,7 @@ pub fn set_kind(mem: &mut [u32], x: u32, kind: u32)
 }
 
 // Sets the user of process i; 0 takes the process out.
+#[tactic(auto, using(crate::proofs::Stored::user_set))]
 pub fn set_user(mem: &mut [u32], i: u32, user: u32)
     requires table { Table mem.old }
     requires i_bound { i < 256 }
@@ -36,6 +58,7 @@ pub fn set_user(mem: &mut [u32], i: u32, user: u32)
 }
 
 // Puts an assignment that is not there in its place, unless there are 2,000.
+#[tactic(auto, using(crate::proofs::Stored::assignment_full, crate::proofs::Stored::assignment_added))]
 pub fn add_assignment(mem: &mut [u32], child: u32, container: u32) -> Result<(), Refusal>
     requires table { Table mem.old }
     requires child_bound { child < 512 }
@@ -56,6 +79,7 @@ pub fn add_assignment(mem: &mut [u32], child: u32, container: u32) -> Result<(),
 }
 
 // Takes an assignment out, where it is there.
+#[tactic(auto, using(crate::proofs::Stored::assignment_taken))]
 pub fn take_assignment(mem: &mut [u32], child: u32, container: u32)
     requires table { Table mem.old }
     requires child_bound { child < 512 }
@@ -72,6 +96,7 @@ pub fn take_assignment(mem: &mut [u32], child: u32, container: u32)
 }
 
 // Takes all assignments of x out.
+#[tactic(auto, using(crate::proofs::Stored::first_order))]
 pub fn take_assignments_of(mem: &mut [u32], x: u32)
     requires table { Table mem.old }
     requires x_bound { x < 512 }
@@ -83,16 +108,12 @@ pub fn take_assignments_of(mem: &mut [u32], x: u32)
 }
 
 // Puts an association in its place, unless there are 1,000.
-pub fn add_association(
-    mem: &mut [u32],
-    attribute: u32,
-    target: u32,
-    rights: u32,
-) -> Result<(), Refusal>
+#[tactic(auto, using(crate::proofs::Stored::association_full, crate::proofs::Stored::association_added))]
+pub fn add_association(mem: &mut [u32], a: Association) -> Result<(), Refusal>
     requires table { Table mem.old }
-    requires attribute_bound { attribute < 512 }
-    requires target_bound { target < 512 }
-    ensures { left result mem.new ≡ added_association (record { attribute = attribute; target = target; rights = rights }) mem.old }
+    requires attribute_bound { a.attribute < 512 }
+    requires target_bound { a.target < 512 }
+    ensures { left result mem.new ≡ added_association (association_of a) mem.old }
 {
     if MOST_ASSOCIATIONS <= mem[ASSOCIATION_COUNTER] {
         return Err(Refusal::NoRoom);
@@ -101,118 +122,95 @@ pub fn add_association(
         mem,
         ASSOCIATIONS,
         ASSOCIATION_COUNTER,
-        &[attribute * 512 + target, rights],
+        &[a.attribute * 512 + a.target, a.rights],
     );
     Ok(())
 }
 
 // Takes an association out, where it is there.
-pub fn take_association(mem: &mut [u32], attribute: u32, target: u32, rights: u32)
+#[tactic(auto, using(crate::proofs::Stored::association_taken))]
+pub fn take_association(mem: &mut [u32], a: Association)
     requires table { Table mem.old }
-    requires attribute_bound { attribute < 512 }
-    requires target_bound { target < 512 }
-    ensures { mem.new ≡ without_association (record { attribute = attribute; target = target; rights = rights }) mem.old }
+    requires attribute_bound { a.attribute < 512 }
+    requires target_bound { a.target < 512 }
+    ensures { mem.new ≡ without_association (association_of a) mem.old }
 {
     group::take_out(
         mem,
         ASSOCIATIONS,
         2,
         ASSOCIATION_COUNTER,
-        &[attribute * 512 + target, rights],
+        &[a.attribute * 512 + a.target, a.rights],
     );
 }
 
 // Whether the association is there, by its exact triple.
-pub fn has_association(mem: &[u32], attribute: u32, target: u32, rights: u32) -> bool
+#[tactic(auto, using(crate::proofs::Associated::association_found))]
+pub fn has_association(mem: &[u32], a: Association) -> bool
     requires table { Table mem.now }
-    requires attribute_bound { attribute < 512 }
-    requires target_bound { target < 512 }
-    ensures { result ≡ has_association (policy_of mem.now) (record { attribute = attribute; target = target; rights = rights }) }
+    requires attribute_bound { a.attribute < 512 }
+    requires target_bound { a.target < 512 }
+    ensures { result ≡ has_association (policy_of mem.now) (association_of a) }
 {
     let n = mem[ASSOCIATION_COUNTER] as usize;
-    group::find(mem, ASSOCIATIONS, 2, n, &[attribute * 512 + target, rights]) < n
+    group::find(
+        mem,
+        ASSOCIATIONS,
+        2,
+        n,
+        &[a.attribute * 512 + a.target, a.rights],
+    ) < n
 }
 
 // The record of a prohibition.
-fn prohibition_record(
-    sort: u32,
-    subject: u32,
-    form: u32,
-    rights: u32,
-    inclusion: &[u32],
-    exclusion: &[u32],
-) -> [u32; 11]
-    requires { Storable (prohibition sort subject form rights inclusion.now exclusion.now) }
-    ensures { result ≡ prohibition_record (prohibition sort subject form rights inclusion.now exclusion.now) }
+fn prohibition_record(b: Prohibition) -> [u32; 11]
+    requires { Storable (prohibition_of b) }
+    ensures { result ≡ prohibition_record (prohibition_of b.entry) }
 {
-    let n = inclusion.len();
-    let m = exclusion.len();
+    let n = b.inclusion.len();
+    let m = b.exclusion.len();
     let mut rec = [0; 11];
-    rec[0] = sort * 1024 + subject * 2 + form;
-    rec[1] = rights;
+    rec[0] = b.sort * 1024 + b.subject * 2 + b.form;
+    rec[1] = b.rights;
     rec[2] = (n * 8 + m) as u32;
-    rec[3..3 + n].copy_from_slice(inclusion);
-    rec[3 + n..3 + n + m].copy_from_slice(exclusion);
+    rec[3..3 + n].copy_from_slice(b.inclusion);
+    rec[3 + n..3 + n + m].copy_from_slice(b.exclusion);
     rec
 }
 
 // Whether the prohibition is there, by its exact fields.
-pub fn has_prohibition(
-    mem: &[u32],
-    sort: u32,
-    subject: u32,
-    form: u32,
-    rights: u32,
-    inclusion: &[u32],
-    exclusion: &[u32],
-) -> bool
+pub fn has_prohibition(mem: &[u32], b: Prohibition) -> bool
     requires table { Table mem.now }
-    requires storable { Storable (prohibition sort subject form rights inclusion.now exclusion.now) }
-    ensures { result ≡ has_prohibition (policy_of mem.now) (prohibition sort subject form rights inclusion.now exclusion.now) }
+    requires storable { Storable (prohibition_of b) }
+    ensures { result ≡ has_prohibition (policy_of mem.now) (prohibition_of b.entry) }
 {
-    let rec = prohibition_record(sort, subject, form, rights, inclusion, exclusion);
-    let used = 3 + inclusion.len() + exclusion.len();
+    let rec = prohibition_record(b);
+    let used = 3 + b.inclusion.len() + b.exclusion.len();
     let n = mem[PROHIBITION_COUNTER] as usize;
     group::find(mem, PROHIBITIONS, 11, n, &rec[..used]) < n
 }
 
 // Puts the prohibition in its place, unless there are 200.
-pub fn add_prohibition(
-    mem: &mut [u32],
-    sort: u32,
-    subject: u32,
-    form: u32,
-    rights: u32,
-    inclusion: &[u32],
-    exclusion: &[u32],
-) -> Result<(), Refusal>
+pub fn add_prohibition(mem: &mut [u32], b: Prohibition) -> Result<(), Refusal>
     requires table { Table mem.old }
-    requires storable { Storable (prohibition sort subject form rights inclusion.now exclusion.now) }
-    ensures { left result mem.new ≡ added_prohibition (prohibition sort subject form rights inclusion.now exclusion.now) mem.old }
+    requires storable { Storable (prohibition_of b) }
+    ensures { left result mem.new ≡ added_prohibition (prohibition_of b.entry) mem.old }
 {
     if MOST_PROHIBITIONS <= mem[PROHIBITION_COUNTER] {
         return Err(Refusal::NoRoom);
     }
-    let rec = prohibition_record(sort, subject, form, rights, inclusion, exclusion);
+    let rec = prohibition_record(b);
     group::add(mem, PROHIBITIONS, PROHIBITION_COUNTER, &rec);
     Ok(())
 }
 
 // Takes out the first prohibition with just those fields, where one is.
-pub fn take_prohibition(
-    mem: &mut [u32],
-    sort: u32,
-    subject: u32,
-    form: u32,
-    rights: u32,
-    inclusion: &[u32],
-    exclusion: &[u32],
-)
+pub fn take_prohibition(mem: &mut [u32], b: Prohibition)
     requires table { Table mem.old }
-    requires storable { Storable (prohibition sort subject form rights inclusion.now exclusion.now) }
-    ensures { mem.new ≡ without_prohibition (prohibition sort subject form rights inclusion.now exclusion.now) mem.old }
+    requires storable { Storable (prohibition_of b) }
+    ensures { mem.new ≡ without_prohibition (prohibition_of b.entry) mem.old }
 {
-    let rec = prohibition_record(sort, subject, form, rights, inclusion, exclusion);
-    let used = 3 + inclusion.len() + exclusion.len();
+    let rec = prohibition_record(b);
+    let used = 3 + b.inclusion.len() + b.exclusion.len();
     group::take_out(mem, PROHIBITIONS, 11, PROHIBITION_COUNTER, &rec[..used]);
 }

@@ -41,6 +41,7 @@ pub const ASSOCIATIONS: usize = 2776;
 pub const PROHIBITIONS: usize = 5776;
 
 // The kind of element x, 0 where it is not there.
+#[tactic(auto, using(crate::proofs::ById::kind_outside, crate::proofs::ById::kind_above, crate::proofs::ById::kind_is))]
 pub fn kind_of(mem: &[u32], x: u32) -> u32
     requires { Table mem.now }
     ensures { result ≡ kind_of (policy_of mem.now) x }
@@ -59,6 +60,7 @@ pub fn kind_of(mem: &[u32], x: u32) -> u32
 }
 
 // x is an id of an element, 1 to 511.
+#[tactic(auto, using(crate::proofs::Asked::id_zero, crate::proofs::Asked::id_rest))]
 pub fn is_element_id(x: u32) -> bool
     ensures { result ≡ is_element_id x }
 {
@@ -69,6 +71,7 @@ pub fn is_element_id(x: u32) -> bool
 }
 
 // x and y are ids of elements.
+#[tactic(auto, using(crate::proofs::Asked::first_fails, crate::proofs::Asked::second_decides))]
 pub fn are_element_ids(x: u32, y: u32) -> bool
     ensures { result ≡ (is_element_id x && is_element_id y) }
 {
@@ -79,6 +82,7 @@ pub fn are_element_ids(x: u32, y: u32) -> bool
 }
 
 // i is an id of a process, 1 to 255.
+#[tactic(auto, using(crate::proofs::Asked::process_zero, crate::proofs::Asked::process_rest))]
 pub fn is_process_id(i: u32) -> bool
     ensures { result ≡ is_process_id i }
 {
@@ -89,6 +93,7 @@ pub fn is_process_id(i: u32) -> bool
 }
 
 // Element x is there.
+#[tactic(auto, using(crate::proofs::Asked::there_is))]
 pub fn is_there(mem: &[u32], x: u32) -> bool
     requires { Table mem.now }
     ensures { result ≡ is_there (policy_of mem.now) x }
@@ -97,6 +102,7 @@ pub fn is_there(mem: &[u32], x: u32) -> bool
 }
 
 // Elements x and y are there.
+#[tactic(auto, using(crate::proofs::Asked::first_fails, crate::proofs::Asked::second_decides))]
 pub fn are_there(mem: &[u32], x: u32, y: u32) -> bool
     requires { Table mem.now }
     ensures { result ≡ (is_there (policy_of mem.now) x && is_there (policy_of mem.now) y) }
@@ -108,6 +114,7 @@ pub fn are_there(mem: &[u32], x: u32, y: u32) -> bool
 }
 
 // The user of process i, 0 where it is not there.
+#[tactic(auto, using(crate::proofs::ById::user_outside, crate::proofs::ById::user_above, crate::proofs::ById::user_is))]
 pub fn user_of(mem: &[u32], i: u32) -> u32
     requires { Table mem.now }
     ensures { result ≡ user_of (policy_of mem.now) i }
@@ -126,6 +133,7 @@ pub fn user_of(mem: &[u32], i: u32) -> u32
 }
 
 // Whether the lists of the prohibition that starts at a word are short: at most four ids each.
+#[tactic(auto, using(crate::proofs::Checks::lists_short_lem))]
 fn has_short_lists(mem: &[u32], start: usize) -> bool
     requires { start + 11 ≤ length mem.now }
     ensures { result ≡ has_short_lists mem.now start }
@@ -135,6 +143,7 @@ fn has_short_lists(mem: &[u32], start: usize) -> bool
 }
 
 // Whether those of the first n prohibitions are. No early exit: every call asks it of each prohibition.
+#[tactic(auto, using(crate::proofs::Checks::short_all))]
 fn have_short_lists(mem: &[u32], n: usize) -> bool
     requires mem_len { length mem.now ≡ 8192 }
     requires n_bound { n ≤ 200 }
@@ -148,6 +157,7 @@ fn have_short_lists(mem: &[u32], n: usize) -> bool
 }
 
 // Whether each of the first n assignments is above the one before it. No early exit: it is the one pass over all assignments that every call makes.
+#[tactic(auto, using(crate::proofs::Checks::rise_none, crate::proofs::Checks::rise_more, crate::proofs::Checks::rise_all))]
 fn are_rising(mem: &[u32], n: usize) -> bool
     requires mem_len { length mem.now ≡ 8192 }
     requires le_n { 1 ≤ n }
@@ -162,6 +172,7 @@ fn are_rising(mem: &[u32], n: usize) -> bool
 }
 
 // Whether the first n assignments rise and their children are below 512: where they rise, the last tells that of all.
+#[tactic(auto, using(crate::proofs::Checks::order_none, crate::proofs::Checks::order_falls, crate::proofs::Checks::order_last))]
 fn are_in_order(mem: &[u32], n: usize) -> bool
     requires mem_len { length mem.now ≡ 8192 }
     requires n_bound { n ≤ 2000 }
@@ -202,6 +213,7 @@ pub fn holds(mem: &[u32]) -> bool
 }
 
 // Makes words that are all zero the empty table.
+#[tactic(auto, using(crate::proofs::Empty::zeros_some))]
 pub fn mark(mem: &mut [u32])
     requires { mem.old ≡ replicate 8192 0 }
     ensures { mem.new ≡ empty_table }
@@ -210,6 +222,7 @@ pub fn mark(mem: &mut [u32])
 }
 
 // Makes the memory the empty table.
+#[tactic(auto, using(crate::proofs::Empty::new_refused, crate::proofs::Empty::new_done))]
 pub fn new(mem: &mut [u32]) -> Result<(), Refusal>
     ensures { left result mem.new ≡ new_table mem.old }
 {
@@ -349,6 +362,7 @@ pub fn prohibition_rights_at(mem: &[u32], i: usize) -> u32
 }
 
 // How many inclusions prohibition i has.
+#[tactic(auto, using(crate::proofs::Listed::inclusions_few))]
 pub fn inclusion_count_at(mem: &[u32], i: usize) -> usize
     requires table { Table mem.now }
     requires i_bound { i < prohibition_count mem.now }
@@ -358,6 +372,7 @@ pub fn inclusion_count_at(mem: &[u32], i: usize) -> usize
 }
 
 // How many exclusions prohibition i has.
+#[tactic(auto, using(crate::proofs::Listed::exclusions_few))]
 pub fn exclusion_count_at(mem: &[u32], i: usize) -> usize
     requires table { Table mem.now }
     requires i_bound { i < prohibition_count mem.now }

@@ -2,10 +2,9 @@
 // three numbers of four bytes, the high byte first. second/ has the script's meaning and makes the stored input and output.
 #![tactic(auto)]
 
-ghost use Rattle.std.specs.Prelude.{◌≡◌, ◌+◌, ◌<◌, length};
-ghost use Rattle.io.specs.Counts.{IsPrefixLen};
-
 use answer::Refusal;
+use command::{Association, Prohibition};
+use trial::Order;
 
 // How many words of the memory and bytes of the index are lent, the form of the prohibition that commands are given, how many inclusions it has,
 // and how many ids in both lists together.
@@ -18,15 +17,6 @@ struct Kept {
     ids: u32,
 }
 
-// A step, or a command of the year.
-#[derive(Clone, Copy)]
-struct Order {
-    letter: u8,
-    a: u32,
-    b: u32,
-    c: u32,
-}
-
 // A letter.
 fn say_letter(letter: u8) {
     io::write_all(1, &[letter]);
@@ -36,14 +26,6 @@ fn say_letter(letter: u8) {
 fn say_number(n: u32, end: u8) {
     io::print_decimal(1, n as u64);
     say_letter(end);
-}
-
-// The refusal number of a call, 0 where it was done.
-fn number_of(r: Result<(), Refusal>) -> u32 {
-    match r {
-        Ok(()) => 0,
-        Err(refusal) => u32::from(refusal),
-    }
 }
 
 // The letter for "accepted", by whether the index is the table's: small if it is, large if it is another.
@@ -58,18 +40,6 @@ fn first_letter(is_its: Result<bool, Refusal>) -> u32 {
 // The letter for an answer: the first one, or that of the refusal number behind it.
 fn letter_of(mem: &[u32], idx: &[u8], n: u32) -> u8 {
     (first_letter(index::is_index(mem, idx)) % 128 + n % 16) as u8
-}
-
-// The next sum; with word 0 also the next number of a sequence that looks like chance.
-fn mix(sum: u32, word: u32) -> u32 {
-    sum.wrapping_mul(1103515245)
-        .wrapping_add(word)
-        .wrapping_add(12345)
-}
-
-// Word i, 0 where there is none.
-fn word_at(mem: &[u32], i: usize) -> u32 {
-    mem.get(i).copied().unwrap_or(0)
 }
 
 // One more if the word is not 0.
@@ -96,18 +66,13 @@ fn say_group(letter: u8, mem: &[u32], from: usize, to: usize, listed: bool) {
     let mut count = 0;
     let mut sum = 0;
     for i in from..to {
-        let word = word_at(mem, i);
+        let word = trial::word_at(mem, i);
         list_word(i - from, word, listed);
         count = counted(count, word);
-        sum = mix(sum, word);
+        sum = trial::mix(sum, word);
     }
     say_number(count, b' ');
     say_number(sum, b'\n');
-}
-
-// The sum of the bytes.
-fn sum_of(idx: &[u8]) -> u32 {
-    idx.iter().fold(0, |sum, byte| mix(sum, u32::from(*byte)))
 }
 
 // The whole state: head, elements, processes, assignments, associations, prohibitions, index.
@@ -119,20 +84,13 @@ fn say_state(mem: &[u32], idx: &[u8], listed: bool) {
     say_group(b'S', mem, table::ASSOCIATIONS, table::PROHIBITIONS, listed);
     say_group(b'P', mem, table::PROHIBITIONS, 8193, listed);
     io::write_all(1, b"I ");
-    say_number(sum_of(idx), b'\n');
-}
-
-// Puts v at word i, where there is such a word.
-fn put(mem: &mut [u32], i: usize, v: u32) {
-    if i < mem.len() {
-        mem[i] = v;
-    }
+    say_number(trial::sum_of(idx), b'\n');
 }
 
 // Puts n ids from `first` on behind a list of `at` ids, as far as there is room.
 fn append(ids: &mut [u32], at: u32, first: u32, n: u32) {
     for i in 0..n {
-        put(ids, at as usize + i as usize, first.wrapping_add(i));
+        trial::put(ids, at as usize + i as usize, first.wrapping_add(i));
     }
 }
 
@@ -167,20 +125,33 @@ fn prohibit(
     n: u32,
     ids: &[u32],
 ) -> Result<(), Refusal> {
-    let k = words_of(n, ids);
+    let (inclusion, exclusion) = ids.split_at(trial::first_of(n, ids));
+    let b = Prohibition {
+        sort: o.a,
+        subject: o.b,
+        form,
+        rights: o.c,
+        inclusion,
+        exclusion,
+    };
     if o.letter == b'p' {
-        return command::create_prohibition(mem, idx, o.a, o.b, form, o.c, &ids[..k], &ids[k..]);
+        return command::create_prohibition(mem, idx, b);
     }
-    command::delete_prohibition(mem, idx, o.a, o.b, form, o.c, &ids[..k], &ids[k..])
+    command::delete_prohibition(mem, idx, b)
 }
 
 // The commands about associations and processes, and the empty table.
 fn relate(mem: &mut [u32], idx: &mut [u8], o: Order) -> Result<(), Refusal> {
+    let a = Association {
+        attribute: o.a,
+        target: o.b,
+        rights: o.c,
+    };
     if o.letter == b's' {
-        return command::create_association(mem, idx, o.a, o.b, o.c);
+        return command::create_association(mem, idx, a);
     }
     if o.letter == b't' {
-        return command::delete_association(mem, idx, o.a, o.b, o.c);
+        return command::delete_association(mem, idx, a);
     }
     if o.letter == b'u' {
         return command::start_process(mem, idx, o.a, o.b);
@@ -349,7 +320,7 @@ fn live(mem: &mut [u32], idx: &mut [u8], r: u32, s: u32, t: u32) -> u32 {
         t,
     );
     let l = t / 384 % 2;
-    number_of(obey(mem, idx, o, t / 192 % 2, 2, &[265 + l, 300 + l, 16 + l]))
+    trial::number_of(obey(mem, idx, o, t / 192 % 2, 2, &[265 + l, 300 + l, 16 + l]))
 }
 
 // What command i of the year adds to the sum: its answer, of each 64th its letter.
@@ -379,11 +350,11 @@ fn year(mem: &mut [u32], idx: &mut [u8], seed: u32, count: u32, every: u32) {
     let mut x = seed;
     let mut sum = 0;
     for i in 1..=count {
-        let r = mix(x, 0);
-        let s = mix(r, 0);
-        x = mix(s, 0);
+        let r = trial::mix(x, 0);
+        let s = trial::mix(r, 0);
+        x = trial::mix(s, 0);
         let n = live(mem, idx, r / 65536, s / 65536, x / 65536);
-        sum = mix(sum, watched(mem, idx, i, n));
+        sum = trial::mix(sum, watched(mem, idx, i, n));
         say_year(mem, idx, i, sum, every);
     }
 }
@@ -399,7 +370,7 @@ fn tell(mem: &mut [u32], idx: &mut [u8], o: Order) {
         return;
     }
     if o.letter == b'W' {
-        put(mem, o.a as usize, o.b);
+        trial::put(mem, o.a as usize, o.b);
         return;
     }
     if o.letter == b'Y' {
@@ -417,22 +388,8 @@ fn step(mem: &mut [u32], idx: &mut [u8], o: Order, form: u32, n: u32, ids: &[u32
         tell(mem, idx, o);
         return;
     }
-    let number = number_of(obey(mem, idx, o, form, n, ids));
+    let number = trial::number_of(obey(mem, idx, o, form, n, ids));
     say_letter(letter_of(mem, idx, number));
-}
-
-// How many of n words there are.
-fn words_of(n: u32, words: &[u32]) -> usize
-    ensures { IsPrefixLen result words.now }
-{
-    words.len().min(n as usize)
-}
-
-// How many of n bytes there are.
-fn bytes_of(n: u32, bytes: &[u8]) -> usize
-    ensures { IsPrefixLen result bytes.now }
-{
-    bytes.len().min(n as usize)
 }
 
 // How many ids a step puts behind the lists.
@@ -471,9 +428,9 @@ fn kept_after(k: Kept, o: Order) -> Kept {
 fn turn(mem: &mut [u32], idx: &mut [u8], ids: &mut [u32], k: Kept, o: Order) -> Kept {
     append(ids, k.ids, o.a, listed(o));
     let kept = kept_after(k, o);
-    let words = words_of(kept.words, mem);
-    let bytes = bytes_of(kept.bytes, idx);
-    let n = words_of(kept.ids, ids);
+    let words = trial::first_of(kept.words, mem);
+    let bytes = trial::first_of(kept.bytes, idx);
+    let n = trial::first_of(kept.ids, ids);
     step(
         &mut mem[..words],
         &mut idx[..bytes],
@@ -485,18 +442,6 @@ fn turn(mem: &mut [u32], idx: &mut [u8], ids: &mut [u32], k: Kept, o: Order) -> 
     kept
 }
 
-// The step that thirteen bytes are.
-fn order_in(s: &[u8]) -> Order
-    requires { length s.now ≡ 13 }
-{
-    Order {
-        letter: s[0],
-        a: u32::from_be_bytes([s[1], s[2], s[3], s[4]]),
-        b: u32::from_be_bytes([s[5], s[6], s[7], s[8]]),
-        c: u32::from_be_bytes([s[9], s[10], s[11], s[12]]),
-    }
-}
-
 // All steps of a script.
 fn run(script: &[u8], mem: &mut [u32], idx: &mut [u8], ids: &mut [u32]) {
     let mut k = Kept {
@@ -506,8 +451,8 @@ fn run(script: &[u8], mem: &mut [u32], idx: &mut [u8], ids: &mut [u32]) {
         inclusions: 0,
         ids: 0,
     };
-    for s in script.chunks_exact(13) {
-        k = turn(mem, idx, ids, k, order_in(s));
+    for s in script.as_chunks::<13>().0 {
+        k = turn(mem, idx, ids, k, trial::long_order(s));
     }
 }
 

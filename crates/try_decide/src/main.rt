@@ -2,15 +2,17 @@
 // numbers of two bytes and one of four, the high byte first. second/ has the script's meaning and makes the stored input and output.
 #![tactic(auto)]
 
-ghost use Rattle.std.specs.Prelude.{◌≡◌, ◌+◌, ◌≤◌, ◌<◌, length, take};
-ghost use Rattle.io.specs.Counts.{IsPrefixLen};
+ghost use Rattle.std.specs.Prelude.{◌<◌};
 ghost use Rattle.table.specs.Facts.{Table};
-ghost use Rattle.store.specs.ProhibitionWords.{prohibition, Storable};
+ghost use Rattle.store.specs.Given.{prohibition_of};
+ghost use Rattle.store.specs.ProhibitionWords.{Storable};
 
 use answer::Refusal;
 use decide::Decision;
 use explain::Explanation;
 use request::Request;
+use store::{Association, Prohibition};
+use trial::Order;
 
 // How many words of the memory and bytes of the index are lent.
 #[derive(Clone, Copy)]
@@ -76,18 +78,6 @@ fn number_of(d: Result<Decision, Refusal>) -> u32 {
     }
 }
 
-// Gives element x a kind, 0 for none; says 2 where it is no kind.
-fn give_kind(mem: &mut [u32], x: u32, kind: u32)
-    requires table { Table mem.old }
-    requires x_bound { x < 512 }
-{
-    if 5 < kind {
-        say(b'R', 2);
-        return;
-    }
-    store::set_kind(mem, x, kind);
-}
-
 // Gives process i a user, 0 for none; says 2 where it is no id.
 fn give_user(mem: &mut [u32], i: u32, user: u32)
     requires table { Table mem.old }
@@ -100,30 +90,17 @@ fn give_user(mem: &mut [u32], i: u32, user: u32)
     store::set_user(mem, i, user);
 }
 
-// Puts an assignment in; says 3 where it is there, and 10 at the limit.
-fn assign(mem: &mut [u32], x: u32, y: u32)
-    requires table { Table mem.old }
-    requires x_bound { x < 512 }
-    requires y_bound { y < 512 }
-{
-    if table::is_assigned(mem, x, y) {
-        say(b'R', 3);
-        return;
-    }
-    say_refusal(store::add_assignment(mem, x, y));
-}
-
 // Puts an association in; says 3 where it is there, and 10 at the limit.
-fn associate(mem: &mut [u32], attribute: u32, target: u32, rights: u32)
+fn associate(mem: &mut [u32], a: Association)
     requires table { Table mem.old }
-    requires attribute_bound { attribute < 512 }
-    requires target_bound { target < 512 }
+    requires attribute_bound { a.attribute < 512 }
+    requires target_bound { a.target < 512 }
 {
-    if store::has_association(mem, attribute, target, rights) {
+    if store::has_association(mem, a) {
         say(b'R', 3);
         return;
     }
-    say_refusal(store::add_association(mem, attribute, target, rights));
+    say_refusal(store::add_association(mem, a));
 }
 
 // Four ids from the three numbers of a step.
@@ -148,93 +125,64 @@ fn count(ids: [u32; 4]) -> u32 {
     4
 }
 
-// How many of n words there are.
-fn words_of(n: u32, words: &[u32]) -> usize
-    ensures { IsPrefixLen result words.now }
-{
-    words.len().min(n as usize)
-}
-
-// How many of n bytes there are.
-fn bytes_of(n: u32, bytes: &[u8]) -> usize
-    ensures { IsPrefixLen result bytes.now }
-{
-    bytes.len().min(n as usize)
-}
-
 // Puts a prohibition in; says 3 where it is there, and 10 at the limit.
-fn prohibit(
-    mem: &mut [u32],
-    sort: u32,
-    subject: u32,
-    form: u32,
-    rights: u32,
-    inclusion: &[u32],
-    exclusion: &[u32],
-)
+fn prohibit(mem: &mut [u32], b: Prohibition)
     requires table { Table mem.old }
-    requires storable { Storable (prohibition sort subject form rights inclusion.now exclusion.now) }
+    requires storable { Storable (prohibition_of b) }
 {
-    if store::has_prohibition(mem, sort, subject, form, rights, inclusion, exclusion) {
+    if store::has_prohibition(mem, b) {
         say(b'R', 3);
         return;
     }
-    say_refusal(store::add_prohibition(mem, sort, subject, form, rights, inclusion, exclusion));
+    say_refusal(store::add_prohibition(mem, b));
 }
 
 // Puts in the prohibition that was being made, with these exclusions.
 fn finish(mem: &mut [u32], d: Draft, inclusions: [u32; 4], exclusions: [u32; 4])
     requires { Table mem.old }
 {
-    let n = words_of(count(inclusions), &inclusions);
-    let m = words_of(count(exclusions), &exclusions);
-    prohibit(
-        mem,
-        d.sort % 4,
-        d.subject % 512,
-        d.form % 2,
-        d.rights,
-        &inclusions[..n],
-        &exclusions[..m],
-    );
+    let n = trial::first_of(count(inclusions), &inclusions);
+    let m = trial::first_of(count(exclusions), &exclusions);
+    let b = Prohibition {
+        sort: d.sort % 4,
+        subject: d.subject % 512,
+        form: d.form % 2,
+        rights: d.rights,
+        inclusion: &inclusions[..n],
+        exclusion: &exclusions[..m],
+    };
+    prohibit(mem, b);
 }
 
 // The steps that change the table; on memory that holds none they say 1.
 fn change(mem: &mut [u32], d: Draft, letter: u8, a: u32, b: u32, v: u32) {
-    if !table::holds(mem) {
-        say(b'R', 1);
+    if letter == b'K' {
+        say_refusal(trial::give_kind(mem, a, b));
         return;
     }
-    if letter == b'K' {
-        give_kind(mem, a % 512, b);
+    if letter == b'A' {
+        say_refusal(trial::assign(mem, a, b));
+        return;
+    }
+    if !table::holds(mem) {
+        say(b'R', 1);
         return;
     }
     if letter == b'U' {
         give_user(mem, a % 256, b);
         return;
     }
-    if letter == b'A' {
-        assign(mem, a % 512, b % 512);
-        return;
-    }
     if letter == b'S' {
-        associate(mem, a % 512, b % 512, v);
+        let given = Association {
+            attribute: a % 512,
+            target: b % 512,
+            rights: v,
+        };
+        associate(mem, given);
         return;
     }
     let inclusions = d.inclusions;
     finish(mem, d, inclusions, listed(a, b, v));
-}
-
-// Puts v at word i, where there is such a word.
-fn put(mem: &mut [u32], i: usize, v: u32) {
-    if i < mem.len() {
-        mem[i] = v;
-    }
-}
-
-// The next number of a sequence that looks like chance.
-fn next(x: u32) -> u32 {
-    x.wrapping_mul(1103515245).wrapping_add(12345)
 }
 
 // A byte from such a number, 0 but in about `share` of 256 cases.
@@ -249,7 +197,7 @@ fn byte_of(x: u32, share: u32) -> u8 {
 fn scatter(idx: &mut [u8], seed: u32, share: u32) {
     let mut x = seed;
     for byte in idx.iter_mut() {
-        x = next(x);
+        x = trial::mix(x, 0);
         *byte = byte_of(x, share);
     }
 }
@@ -302,7 +250,7 @@ fn ask(mem: &mut [u32], idx: &[u8], q: Request, indexed: bool, times: u32) {
     let first = decide_once(mem, idx, q, indexed);
     let number = number_of(first);
     for i in 1..times {
-        put(mem, 7, i);
+        trial::put(mem, 7, i);
         if number_of(decide_once(mem, idx, q, indexed)) != number {
             say(b'X', i);
             return;
@@ -365,18 +313,10 @@ fn explain_into(mem: &[u32], q: Request, rows: &mut [[u32; 8]]) {
     }
 }
 
-// How many of n rows there are.
-fn rows_of(n: u32, rows: &[[u32; 8]]) -> usize
-    ensures upper_bound { result ≤ length rows.now }
-    ensures value { result ≡ length (take result rows.now) }
-{
-    rows.len().min(n as usize)
-}
-
 // Explains with so many rows lent.
 fn explain_in(mem: &[u32], q: Request, room: u32) {
     let mut rows = [[0u32; 8]; 1600];
-    let n = rows_of(room % 1601, &rows);
+    let n = trial::first_of(room % 1601, &rows);
     explain_into(mem, q, &mut rows[..n]);
 }
 
@@ -444,7 +384,7 @@ fn write(mem: &mut [u32], d: Draft, letter: u8, a: u32, b: u32, v: u32) {
         return;
     }
     if letter == b'W' {
-        put(mem, a as usize, v);
+        trial::put(mem, a as usize, v);
         return;
     }
     change(mem, d, letter, a, b, v);
@@ -466,8 +406,8 @@ fn step(mem: &mut [u32], idx: &mut [u8], k: Kept, letter: u8, a: u32, b: u32, v:
 // One step on as much as is lent.
 fn lend(mem: &mut [u32], idx: &mut [u8], k: Kept, letter: u8, a: u32, b: u32, v: u32) {
     let l = k.lent;
-    let words = words_of(l.words, mem);
-    let bytes = bytes_of(l.bytes, idx);
+    let words = trial::first_of(l.words, mem);
+    let bytes = trial::first_of(l.bytes, idx);
     step(&mut mem[..words], &mut idx[..bytes], k, letter, a, b, v);
 }
 
@@ -567,16 +507,10 @@ fn kept_after(k: Kept, letter: u8, a: u32, b: u32, v: u32) -> Kept {
     }
 }
 
-// The step that nine bytes are.
-fn turn(s: &[u8], mem: &mut [u32], idx: &mut [u8], k: Kept) -> Kept
-    requires { length s.now ≡ 9 }
-{
-    let letter = s[0];
-    let a = u32::from(u16::from_be_bytes([s[1], s[2]]));
-    let b = u32::from(u16::from_be_bytes([s[3], s[4]]));
-    let v = u32::from_be_bytes([s[5], s[6], s[7], s[8]]);
-    let after = kept_after(k, letter, a, b, v);
-    lend(mem, idx, after, letter, a, b, v);
+// One step, and what is kept after it.
+fn turn(o: Order, mem: &mut [u32], idx: &mut [u8], k: Kept) -> Kept {
+    let after = kept_after(k, o.letter, o.a, o.b, o.c);
+    lend(mem, idx, after, o.letter, o.a, o.b, o.c);
     after
 }
 
@@ -602,8 +536,8 @@ fn run(script: &[u8], mem: &mut [u32], idx: &mut [u8]) {
             inclusions: [0; 4],
         },
     };
-    for s in script.chunks_exact(9) {
-        k = turn(s, mem, idx, k);
+    for s in script.as_chunks::<9>().0 {
+        k = turn(trial::short_order(s), mem, idx, k);
     }
 }
 

@@ -2,10 +2,10 @@
 // bytes, the high byte first; an image follows its step. second/ has the script's meaning and makes the stored input and output.
 #![tactic(auto)]
 
-ghost use Rattle.std.specs.Prelude.{◌≡◌, ◌<◌, length};
-ghost use Rattle.io.specs.Counts.{IsPrefixLen};
+ghost use Rattle.std.specs.Prelude.{◌<◌};
 
 use answer::Refusal;
+use trial::Order;
 
 // How many words of the memory and bytes of the room are lent, and how many bytes the image has.
 #[derive(Clone, Copy)]
@@ -13,14 +13,6 @@ struct Kept {
     words: u32,
     bytes: u32,
     image: u32,
-}
-
-// A step.
-#[derive(Clone, Copy)]
-struct Order {
-    letter: u8,
-    a: u32,
-    b: u32,
 }
 
 // A letter.
@@ -39,14 +31,6 @@ fn letter_of(n: u32) -> u8 {
     b'a' + (n % 16) as u8
 }
 
-// The refusal number of a call, 0 where it was done.
-fn number_of(r: Result<(), Refusal>) -> u32 {
-    match r {
-        Ok(()) => 0,
-        Err(refusal) => u32::from(refusal),
-    }
-}
-
 // What a save answers as one number: the length, or 65,536 times the refusal number.
 fn code_of(r: Result<usize, Refusal>) -> u32 {
     match r {
@@ -55,33 +39,9 @@ fn code_of(r: Result<usize, Refusal>) -> u32 {
     }
 }
 
-// The next sum; also the next number of a sequence that looks like chance.
-fn mix(sum: u32, word: u32) -> u32 {
-    sum.wrapping_mul(1103515245)
-        .wrapping_add(word)
-        .wrapping_add(12345)
-}
-
 // The sum of the words.
 fn sum_words(mem: &[u32]) -> u32 {
-    mem.iter().fold(0, |sum, word| mix(sum, *word))
-}
-
-// The sum of the bytes.
-fn sum_bytes(bytes: &[u8]) -> u32 {
-    bytes.iter().fold(0, |sum, byte| mix(sum, u32::from(*byte)))
-}
-
-// Puts v at word i, where there is such a word.
-fn put(mem: &mut [u32], i: usize, v: u32) {
-    if i < mem.len() {
-        mem[i] = v;
-    }
-}
-
-// Word i, 0 where there is none.
-fn word_at(mem: &[u32], i: usize) -> u32 {
-    mem.get(i).copied().unwrap_or(0)
+    mem.iter().fold(0, |sum, word| trial::mix(sum, *word))
 }
 
 // Makes the bytes those of others, zero where these end.
@@ -100,48 +60,34 @@ fn flip(bytes: &mut [u8], bit: usize) {
     bytes[i] ^= 128 >> (bit % 8);
 }
 
-// How many of n words there are.
-fn words_of(n: u32, words: &[u32]) -> usize
-    ensures { IsPrefixLen result words.now }
-{
-    words.len().min(n as usize)
-}
-
-// How many of n bytes there are.
-fn bytes_of(n: u32, bytes: &[u8]) -> usize
-    ensures { IsPrefixLen result bytes.now }
-{
-    bytes.len().min(n as usize)
-}
-
 // The state: the head, the sum of the words, the sum of the room.
 fn say_state(mem: &[u32], room: &[u8]) {
     io::write_all(1, b"H ");
     for i in 0..8 {
-        say_number(word_at(mem, i), b' ');
+        say_number(trial::word_at(mem, i), b' ');
     }
     say_number(sum_words(mem), b'\n');
     io::write_all(1, b"R ");
-    say_number(sum_bytes(room), b'\n');
+    say_number(trial::sum_of(room), b'\n');
 }
 
 // Saves, and adds the words, the answer and the room to the sum.
 fn save_into(mem: &[u32], room: &mut [u8], sum: u32) -> u32 {
-    let before = mix(sum, sum_words(mem));
-    let answered = mix(before, code_of(image::save(mem, room)));
-    mix(answered, sum_bytes(room))
+    let before = trial::mix(sum, sum_words(mem));
+    let answered = trial::mix(before, code_of(image::save(mem, room)));
+    trial::mix(answered, trial::sum_of(room))
 }
 
 // Loads, says the answer, saves, and adds all to the sum.
 fn attempt(mem: &mut [u32], bytes: &[u8], room: &mut [u8], sum: u32) -> u32 {
-    let n = number_of(image::load(mem, bytes));
+    let n = trial::number_of(image::load(mem, bytes));
     say_letter(letter_of(n));
-    save_into(mem, room, mix(sum, n))
+    save_into(mem, room, trial::mix(sum, n))
 }
 
 // The first n bytes, or all where there are fewer, are tried.
 fn attempt_first(mem: &mut [u32], bytes: &[u8], n: u32, room: &mut [u8], sum: u32) -> u32 {
-    let k = bytes_of(n, bytes);
+    let k = trial::first_of(n, bytes);
     attempt(mem, &bytes[..k], room, sum)
 }
 
@@ -189,7 +135,7 @@ fn scatter(bytes: &mut [u8], n: usize, x: u32, k: u32)
 {
     let mut y = x;
     for _ in 0..k {
-        y = mix(y, 1);
+        y = trial::mix(y, 1);
         flip(bytes, (y / 32768) as usize % n);
     }
 }
@@ -203,7 +149,7 @@ fn attempt_damaged(
     x: u32,
     sum: u32,
 ) -> u32 {
-    let r = mix(x, 0) / 65536;
+    let r = trial::mix(x, 0) / 65536;
     if r % 4 == 0 {
         return attempt_first(mem, bytes, r / 4 % (n / 8 + 1), room, sum);
     }
@@ -221,7 +167,7 @@ fn damages(mem: &mut [u32], bytes: &mut [u8], room: &mut [u8], n: u32, seed: u32
     let mut x = seed;
     let mut sum = 0;
     for i in 0..count {
-        x = mix(x, i);
+        x = trial::mix(x, i);
         sum = attempt_damaged(mem, bytes, room, n, x, sum);
     }
     say_sum(sum);
@@ -237,14 +183,14 @@ fn say_save(mem: &[u32], room: &mut [u8]) {
 // The steps that load, save and make the empty table.
 fn obey(mem: &mut [u32], bytes: &[u8], room: &mut [u8], letter: u8) {
     if letter == b'l' {
-        say_letter(letter_of(number_of(image::load(mem, bytes))));
+        say_letter(letter_of(trial::number_of(image::load(mem, bytes))));
         return;
     }
     if letter == b's' {
         say_save(mem, room);
         return;
     }
-    say_letter(letter_of(number_of(table::new(mem))));
+    say_letter(letter_of(trial::number_of(table::new(mem))));
 }
 
 // The steps that try images. n is how many bytes the image has.
@@ -273,7 +219,7 @@ fn tell(mem: &mut [u32], room: &mut [u8], o: Order) {
         return;
     }
     if o.letter == b'W' {
-        put(mem, o.a as usize, o.b);
+        trial::put(mem, o.a as usize, o.b);
         return;
     }
     if o.letter == b'Z' {
@@ -324,7 +270,7 @@ fn take_image(bytes: &mut [u8], more: &[u8], n: u32, o: Order) {
         return;
     }
     if o.letter == b'N' {
-        let k = bytes_of(n, bytes);
+        let k = trial::first_of(n, bytes);
         bytes[k..].fill(0);
     }
 }
@@ -340,9 +286,9 @@ fn turn(
 ) -> Kept {
     let kept = kept_after(k, o);
     take_image(bytes, more, kept.image, o);
-    let words = words_of(kept.words, mem);
-    let length = bytes_of(kept.image, bytes);
-    let lent = bytes_of(kept.bytes, room);
+    let words = trial::first_of(kept.words, mem);
+    let length = trial::first_of(kept.image, bytes);
+    let lent = trial::first_of(kept.bytes, room);
     step(
         &mut mem[..words],
         &mut bytes[..length],
@@ -351,17 +297,6 @@ fn turn(
         o,
     );
     kept
-}
-
-// The step that thirteen bytes are.
-fn order_in(s: &[u8]) -> Order
-    requires { length s.now ≡ 13 }
-{
-    Order {
-        letter: s[0],
-        a: u32::from_be_bytes([s[1], s[2], s[3], s[4]]),
-        b: u32::from_be_bytes([s[5], s[6], s[7], s[8]]),
-    }
 }
 
 // All steps of a script.
@@ -373,10 +308,9 @@ fn run(script: &[u8], mem: &mut [u32], bytes: &mut [u8], room: &mut [u8]) {
     };
     let mut rest = script;
     // A while: the place moves by what was read.
-    while 13 <= rest.len() {
-        let o = order_in(&rest[..13]);
-        let behind = &rest[13..];
-        let n = bytes_of(following(o), behind);
+    while let Some((s, behind)) = rest.split_first_chunk::<13>() {
+        let o = trial::long_order(s);
+        let n = trial::first_of(following(o), behind);
         k = turn(mem, bytes, room, &behind[..n], k, o);
         rest = &behind[n..];
     }

@@ -2,8 +2,7 @@
 // bytes and one of four, the high byte first. second/ has the script's meaning and makes the stored input and output.
 #![tactic(auto)]
 
-ghost use Rattle.std.specs.Prelude.{◌≡◌, ◌<◌, length};
-ghost use Rattle.table.specs.Facts.{Table};
+ghost use Rattle.std.specs.Prelude.{◌≡◌, length};
 
 use answer::Refusal;
 use bits::Cursor;
@@ -30,52 +29,25 @@ fn say_yes(letter: u8, r: Result<bool, Refusal>) {
     }
 }
 
-// Gives element x a kind, 0 for none; says 2 where it is no kind.
-fn give_kind(mem: &mut [u32], x: u32, kind: u32)
-    requires table { Table mem.old }
-    requires x_bound { x < 512 }
-{
-    if 5 < kind {
-        say(b'R', 2);
-        return;
-    }
-    store::set_kind(mem, x, kind);
-}
-
-// Puts an assignment in; says 3 where it is there, and 10 at the limit.
-fn assign(mem: &mut [u32], x: u32, y: u32)
-    requires table { Table mem.old }
-    requires x_bound { x < 512 }
-    requires y_bound { y < 512 }
-{
-    if table::is_assigned(mem, x, y) {
-        say(b'R', 3);
-        return;
-    }
-    say_refusal(store::add_assignment(mem, x, y));
-}
-
 // The steps that change the table; on memory that holds none they say 1.
 fn change(mem: &mut [u32], letter: u8, a: u32, b: u32) {
+    if letter == b'K' {
+        say_refusal(trial::give_kind(mem, a, b));
+        return;
+    }
+    if letter == b'A' {
+        say_refusal(trial::assign(mem, a, b));
+        return;
+    }
     if !table::holds(mem) {
         say(b'R', 1);
         return;
     }
-    let x = a % 512;
-    let y = b % 512;
-    if letter == b'K' {
-        give_kind(mem, x, b);
-        return;
-    }
-    if letter == b'A' {
-        assign(mem, x, y);
-        return;
-    }
     if letter == b'D' {
-        store::take_assignment(mem, x, y);
+        store::take_assignment(mem, a % 512, b % 512);
         return;
     }
-    store::take_assignments_of(mem, x);
+    store::take_assignments_of(mem, a % 512);
 }
 
 // The steps about the index; one of another length is lent on request.
@@ -126,13 +98,6 @@ fn bits_step(room: &mut [u8], letter: u8, n: u32, at: usize, v: u32)
         return;
     }
     Cursor { at }.write(room, n, v);
-}
-
-// Two bytes as a number.
-fn two(high: u8, low: u8) -> u32
-    ensures { result < 65536 }
-{
-    u32::from(u16::from_be_bytes([high, low]))
 }
 
 // One step.
@@ -188,11 +153,9 @@ fn run(script: &[u8], mem: &mut [u32], idx: &mut [u8], room: &mut [u8])
     requires idx_len { length idx.old ≡ 32768 }
     requires room_len { length room.old ≡ 64 }
 {
-    for s in script.chunks_exact(9) {
-        let a = two(s[1], s[2]);
-        let b = two(s[3], s[4]);
-        let v = u32::from_be_bytes([s[5], s[6], s[7], s[8]]);
-        step(mem, idx, room, s[0], a, b, v);
+    for s in script.as_chunks::<9>().0 {
+        let o = trial::short_order(s);
+        step(mem, idx, room, o.letter, o.a, o.b, o.c);
     }
 }
 

@@ -18,6 +18,7 @@ use table::{
 };
 
 // The n records at a place, an id and a value of so many bits each: each value into its id's word, of the words from `from` on.
+#[tactic(auto, using(crate::proofs::ById::placing_more, crate::proofs::ById::placing_all))]
 fn unpack_by_id(
     s: &[u8],
     at: usize,
@@ -45,6 +46,7 @@ fn unpack_by_id(
 }
 
 // The n numbers of `width` bits at a place, each into a word of its own from `from` on.
+#[tactic(auto, using(crate::proofs::Numbers::numbers_all))]
 fn unpack_numbers(s: &[u8], at: usize, n: usize, width: u32, mem: &mut [u32], from: usize)
     requires le_width { 1 ≤ width }
     requires width_bound { width ≤ 32 }
@@ -72,6 +74,7 @@ fn unpack_assignments(s: &[u8], at: usize, n: usize, mem: &mut [u32])
 }
 
 // The n associations at a place: 18 bits are the first word of each, the rights the second.
+#[tactic(auto, using(crate::proofs::Turns::associations_none, crate::proofs::Turns::associations_all))]
 fn unpack_associations(s: &[u8], at: usize, n: usize, mem: &mut [u32])
     requires n_bound { n ≤ 1000 }
     requires reaches { Reaches s.now at (50 * n) }
@@ -97,6 +100,7 @@ fn listed(counts: u32) -> usize
 }
 
 // The record of the prohibition at a place: sort, subject and form are its first word, the rights its second, the counts its third.
+#[tactic(auto, using(crate::proofs::Records::few_ids, crate::proofs::Records::ids_room), unfolding(measure::specs::Places::behind))]
 fn prohibition_at(s: &[u8], at: usize) -> [u32; 11]
     requires reaches { Reaches s.now (behind (bits_of s.now) at 1) 0 }
     requires s_value { lists_short (read_prohibition (drop at (bits_of s.now))).value ≡ true }
@@ -114,6 +118,7 @@ fn prohibition_at(s: &[u8], at: usize) -> [u32; 11]
 }
 
 // The n prohibitions at a place, each into its eleven words.
+#[tactic(auto, using(crate::proofs::Prohibitions::next_reaches, crate::proofs::Prohibitions::next_short, crate::proofs::Prohibitions::passing_all))]
 fn unpack_prohibitions(s: &[u8], at: usize, n: usize, mem: &mut [u32])
     requires n_bound { n ≤ 200 }
     requires reaches { Reaches s.now (behind (bits_of s.now) at n) 0 }
@@ -156,6 +161,7 @@ fn unpack_relations(
 }
 
 // The image's records, laid into the words of the empty table.
+#[tactic(auto, using(screen::proofs::Answers::head_reached, screen::proofs::Answers::elements_reached, crate::proofs::Whole::empty_size, screen::proofs::Answers::processes_reached, crate::proofs::Whole::few_assignments, crate::proofs::Whole::few_associations, crate::proofs::Whole::few_prohibitions, screen::proofs::Answers::prohibitions_reached, crate::proofs::Whole::lists_short_lem))]
 pub fn unpack(s: &[u8], mem: &mut [u32])
     requires uncut { Uncut s.now }
     requires s_value { stowable (policy_in s.now) ≡ true }

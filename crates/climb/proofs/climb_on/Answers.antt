@@ -1,5 +1,4 @@
 use Rattle.climb.proofs.Onward.{front_on, climbed_on}
-use Rattle.climb.proofs.Queue.{kept_then}
 use Rattle.climb.proofs.climb_on.Goals as goal
 
 pub climb-requires-clause-front : goal.climb-requires-clause-front
@@ -7,6 +6,3 @@ climb-requires-clause-front c = search front_on
 
 pub returns-clause-further : goal.returns-clause-further
 returns-clause-further c = search climbed_on
-
-pub returns-clause-kept : goal.returns-clause-kept
-returns-clause-kept c = search kept_then

@@ -1,5 +1,5 @@
 use Rattle.std.proofs.lemmas.Result.{err_from_is_err_and}
-use Rattle.command.proofs.Calls.{association_attribute, association_done, association_room, association_target, call_refused, call_table}
+use Rattle.command.proofs.Calls.{association_done, association_room, call_refused}
 use Rattle.command.proofs.create_association.Goals as goal
 
 pub returns-in_err-create_association : goal.returns-in_err-create_association
@@ -7,18 +7,10 @@ returns-in_err-create_association c =
     let p = err_from_is_err_and c.from_residual.result c.from_residual.ensures.1 in
     rw (p.1, p.2) (call_refused _ _ _ _ c.in_err-create_association.ensures)
 
-pub add_association-requires-clause-table : goal.add_association-requires-clause-table
-add_association-requires-clause-table c = search (call_table, c.in_ok-create_association.ensures)
-
-pub add_association-requires-clause-attribute_bound : goal.add_association-requires-clause-attribute_bound
-add_association-requires-clause-attribute_bound c = search (association_attribute, c.in_ok-create_association.ensures)
-
-pub add_association-requires-clause-target_bound : goal.add_association-requires-clause-target_bound
-add_association-requires-clause-target_bound c = search (association_target, c.in_ok-create_association.ensures)
-
 pub returns : goal.returns
 returns c = search (association_done, c.in_ok-create_association.ensures, c.in_ok-add_association.ensures)
 
 -- what is not refused has room
+
 pub returns-in_err-add_association : goal.returns-in_err-add_association
 returns-in_err-add_association c = association_room _ _ _ c.in_ok-create_association.ensures _ c.in_err-add_association.ensures

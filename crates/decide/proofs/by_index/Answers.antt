@@ -1,9 +1,5 @@
 use Rattle.decide.proofs.Sights.{index_rows}
-use Rattle.decide.proofs.Answered.{told_by_index}
 use Rattle.decide.proofs.by_index.Goals as goal
 
 pub choose-requires-clause-all_rows : goal.choose-requires-clause-all_rows
 choose-requires-clause-all_rows c = search index_rows
-
-pub returns : goal.returns
-returns c = search told_by_index

@@ -4,9 +4,6 @@ use Rattle.desk.proofs.put_answer.Goals as goal
 pub returns-then-last-eq1 : goal.returns-then-last-eq1
 returns-then-last-eq1 c = search set_put
 
-pub put_verdict-requires-clause-decided : goal.put_verdict-requires-clause-decided
-put_verdict-requires-clause-decided c = c.in-Ok.ensures
-
 pub returns-in-Ok : goal.returns-in-Ok
 returns-in-Ok c = search verdict_put
 

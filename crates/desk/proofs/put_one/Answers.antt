@@ -6,11 +6,8 @@ use Rattle.model.specs.Bits.{bits_of}
 use Rattle.model.specs.Desk.{request_line}
 use Rattle.table.specs.View.{policy_of}
 use Rattle.lines.proofs.Texts.{typed_as}
-use Rattle.desk.proofs.Requests.{cut_line, whole_line}
+use Rattle.desk.proofs.Requests.{whole_line}
 use Rattle.desk.proofs.put_one.Goals as goal
-
-pub returns-then-s-lt-REQUEST : goal.returns-then-s-lt-REQUEST
-returns-then-s-lt-REQUEST c = typed_as (sym (cut_line (policy_of c.args.mem.now) c.args.s.now (omega arith) (omega arith))) c.put_cut.ensures.typed
 
 pub returns-else-s-lt-REQUEST : goal.returns-else-s-lt-REQUEST
 returns-else-s-lt-REQUEST c =

@@ -1,11 +1,8 @@
-use Rattle.desk.proofs.Answering.{grant_put, deny_put, denied_accepted, denied_verdict}
+use Rattle.desk.proofs.Answering.{grant_put, deny_put, denied_accepted}
 use Rattle.desk.proofs.put_verdict.Goals as goal
 
 pub put_denial-requires-clause-accepted : goal.put_denial-requires-clause-accepted
 put_denial-requires-clause-accepted c = search denied_accepted
-
-pub put_denial-requires-clause-q_value : goal.put_denial-requires-clause-q_value
-put_denial-requires-clause-q_value c = search denied_verdict
 
 pub returns-in-Grant : goal.returns-in-Grant
 returns-in-Grant c = search grant_put

