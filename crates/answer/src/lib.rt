@@ -1,8 +1,8 @@
 // What a call answers where it refuses: why, and the number that stands for it.
 #![tactic(auto)]
 
-ghost use Rattle.std.specs.Prelude.{◌≡◌};
-ghost use Rattle.answer.specs.Answers.{number_of};
+ghost use Rattle.std.specs.Prelude.{◌≡◌, Some};
+ghost use Rattle.answer.specs.Answers.{number_of, text_of};
 
 use std::error::Error;
 use std::fmt;
@@ -64,24 +64,33 @@ impl From<Refusal> for u32 {
     }
 }
 
+// What a person is told of a refusal.
+fn text(refusal: Refusal) -> &'static str
+    ensures { result.now ≡ text_of refusal }
+{
+    match refusal {
+        Refusal::NoTable => "the memory holds no table",
+        Refusal::OutOfRange => "a number is out of range",
+        Refusal::AlreadyThere => "it is there already",
+        Refusal::NotThere => "what is named is not there",
+        Refusal::WrongKind => "the kinds do not allow it",
+        Refusal::IllFormed => "no rights, or lists that do not fit",
+        Refusal::ClosesCycle => "it would close a cycle",
+        Refusal::OnlyAssignment => "it is the only assignment",
+        Refusal::InUse => "it is in use",
+        Refusal::NoRoom => "there is no room",
+        Refusal::OtherForm => "the image is of another form",
+        Refusal::Misfit => "the image is longer or shorter than its fields",
+        Refusal::BreaksRule => "the image breaks a rule",
+        Refusal::NamesWrong => "the image names what it must not",
+    }
+}
+
 impl fmt::Display for Refusal {
+    ghost output = { λ refusal. Some (text_of refusal) };
+
     fn fmt<W: fmt::Write>(&self, f: &mut fmt::Formatter<W>) -> fmt::Result {
-        f.write_str(match self {
-            Refusal::NoTable => "the memory holds no table",
-            Refusal::OutOfRange => "a number is out of range",
-            Refusal::AlreadyThere => "it is there already",
-            Refusal::NotThere => "what is named is not there",
-            Refusal::WrongKind => "the kinds do not allow it",
-            Refusal::IllFormed => "no rights, or lists that do not fit",
-            Refusal::ClosesCycle => "it would close a cycle",
-            Refusal::OnlyAssignment => "it is the only assignment",
-            Refusal::InUse => "it is in use",
-            Refusal::NoRoom => "there is no room",
-            Refusal::OtherForm => "the image is of another form",
-            Refusal::Misfit => "the image is longer or shorter than its fields",
-            Refusal::BreaksRule => "the image breaks a rule",
-            Refusal::NamesWrong => "the image names what it must not",
-        })
+        f.write_str(text(*self))
     }
 }
 

@@ -92,7 +92,8 @@ pub fn climb_on(
     climb(mem, seen, queue, tail, t)
 }
 
-// Marks all that x is within.
+// Marks all that x is within. In its caller, so that the marks are not copied.
+#[inline(always)]
 pub fn marks(mem: &[u32], x: u32) -> [u8; 512]
     requires table { Table mem.now }
     requires x_bound { x < 512 }

@@ -1,15 +1,19 @@
 -- The lowest subject through which a right is restricted: each return for one prohibition, and the loop over all of them.
 -- Assumes nothing.
-use mathlib.Core.Path.{◌≡◌, refl, sym, ap, ap₂, ◌∙◌}
+use mathlib.Core.Path.{◌≡◌, refl, sym, ap, ap₂, subst, ◌∙◌}
 use mathlib.Core.Bool.{Bool, true, false, cond}
-use mathlib.Core.List.{List, [], ◌∷◌, map}
+use mathlib.Core.List.{List, [], ◌∷◌, map, map-id}
 use Prim.Native.Nat.{ℕ, zero, suc, min, ◌+◌, ◌≤◌, ◌<◌}
 use native.Mathlib.Omega.{arith}
 use native.Mathlib.Decide.{dec_lt}
 use borrow.Author.Tests.{eq-eqb, ne_eqb, lt-ltb, le-ltb}
 use lib.Dec.{eqb, ltb}
-use Rattle.std.specs.List.{filter, fold, reduce, range_with_len}
-use Rattle.std.specs.Prelude.{Some}
+use denote.Param.Members.{Mut}
+use Rattle.std.specs.Fn.{Called}
+use Rattle.std.specs.Iterator.{Drains, FoldTurn, ReducesItems}
+use Rattle.std.specs.List.{FoldsTo, filter, fold, reduce, range_with_len}
+use Rattle.std.specs.Prelude.{Option, Some, None}
+use Rattle.std.proofs.lemmas.Iterator.{YieldsList, items_from_drains}
 use Rattle.model.specs.Lists.{In, first, those, tabulate, least_of}
 use Rattle.model.specs.Policy.{Prohibition}
 use Rattle.model.specs.Contain.{contained}
@@ -72,6 +76,24 @@ module _ {A : Type 0} (t : A → Bool) (g : A → ℕ) where
       go : (b : Bool) (l : List ℕ) (m : List A) → g (h a) ≡ g (f 0) → map (λ i. g (h i)) l ≡ map g m → map (λ i. g (h i)) (cond b (a ∷ l) l) ≡ map g (cond b (f 0 ∷ m) m)
       go true l m x k = ap₂ ◌∷◌ x k
       go false l m x k = k
+
+-- calls that leave the callee as it was, and answer by h
+module _ {F : Type 0} (g : Mut F (ℕ × (ℕ × Unit {0})) ℕ) (h : ℕ → ℕ → ℕ) {f : F} (by_h : (a x b : ℕ) (q : F) → Called g f (a, (x, tt)) b q → (q ≡ f) × (b ≡ h a x)) where
+  -- one call for each of some numbers, each on what the one before it answered
+  calls_fold : (l : List ℕ) (p q : F × ℕ) → p.0 ≡ f → FoldsTo {P = F × ℕ} (FoldTurn g) p l q → q.1 ≡ fold h p.1 l
+  calls_fold [] p q e c = ap (λ (w : F × ℕ). w.1) (sym c)
+  calls_fold (x ∷ l) p q e c =
+      let m = by_h p.1 x c.0.1 c.0.0 (subst (λ w. Called g w (p.1, (x, tt)) c.0.1 c.0.0) e c.1) in
+      calls_fold l c.0 q m.0 c.2 ∙ ap (λ b. fold h b l) m.1
+
+  -- the answer of `reduce`, which calls it, over the numbers that a chain yields
+  module _ {S : Type 0} {steps : S → Option ℕ → S → Type 0} {s : S} {l : List ℕ} (road : YieldsList steps (λ x. x) s l) where
+    all_drained : (m : List ℕ) → Drains steps s m → m ≡ l
+    all_drained m d = sym (map-id m) ∙ items_from_drains m (d.1.0, d.1.1, λ _. (d.0, d.1.2)) road
+
+    pub calls_reduce : (r : Option ℕ) → ReducesItems steps g s f r → r ≡ reduce h l
+    calls_reduce None d = ap (reduce h) (all_drained [] d)
+    calls_reduce (Some y) d = ap Some (calls_fold d.1 (f, d.0) (d.2, y) refl d.4) ∙ ap (reduce h) (all_drained (d.0 ∷ d.1) d.3)
 
 -- the least of some numbers, told from the first on
 fold_least : (x : ℕ) (l : List ℕ) → least_of x l ≡ fold min x l

@@ -39,7 +39,7 @@ fn lowest_subject(mem: &[u32], rows: &[u8], q: Asking, sort: u32) -> Option<u32>
     (0..n)
         .filter(|i| restricts_through(mem, rows, q, sort, *i))
         .map(|i| table::subject_at(mem, i))
-        .min()
+        .reduce(|a, b| a.min(b))
 }
 
 // Why a right that is held is not permitted: the causes are tried from 2 up.

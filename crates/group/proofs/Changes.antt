@@ -1,19 +1,16 @@
 -- What the moves leave is the changed group in its place: a record more, or some fewer.
 -- Assumes nothing.
-use mathlib.Core.Path.{◌≡◌, refl, ap, ◌∙◌}
+use mathlib.Core.Path.{◌≡◌, ap, ◌∙◌}
 use mathlib.Core.List.{List, ◌∷◌, ◌++◌, append_assoc, append-nil}
 use Prim.Native.Nat.{ℕ, ◌+◌, ◌*◌, ◌-◌, ◌^◌, ◌≤◌, ◌<◌}
 use native.Mathlib.Nat.{mul-add}
 use native.Mathlib.Omega.{arith}
-use borrow.Rule.Slice.PartMut.{put_mid}
 use lib.ListN.{length, take, drop, get_or, set, replicate, length-append, length-drop, length-replicate}
 use lib.Seq.{drop-drop, length-take-le}
-use Rattle.std.specs.List.{copy_within}
 use Rattle.group.specs.Group.{records, flat, group, laid, regroup, inserted_at, removed_at, Fits}
 use Rattle.group.proofs.Widths.{width_more, width_split}
 use Rattle.group.proofs.Rooms.{count_small}
-use Rattle.group.proofs.Laid.{length_part, laid_length, laid_before, laid_behind, laid_wider}
-use Rattle.group.proofs.Moves.{put_laid, copied_laid, filled_laid}
+use Rattle.group.proofs.Laid.{length_part, laid_before, laid_behind, laid_wider}
 use Rattle.group.proofs.Records.{length_records, flat_records, take_records, drop_records, flat_append}
 
 -- the words with a group in its place, by the words laid and the number
@@ -63,11 +60,11 @@ module _ (base counter at : ℕ) (rec l : List ℕ) (f : Fits base (length rec) 
   insert_room = (opening f h).reach
 
   -- words moved up by a record's width and the record stored between are the group with the record put in
-  inserted_laid : {m m' : List ℕ} → m ≡ laid (base + length rec * at + length rec) (take (length rec * (get_or l counter 0 - at)) (drop (base + length rec * at) l)) l
+  pub inserted : {m m' : List ℕ} → m ≡ laid (base + length rec * at + length rec) (take (length rec * (get_or l counter 0 - at)) (drop (base + length rec * at) l)) l
       → m' ≡ laid (base + length rec * at) rec m
       → set m' counter (get_or l counter 0 + 1) ≡ inserted_at base counter at rec l
   unfolding group flat
-  inserted_laid {m} {m'} e e' =
+  inserted {m} {m'} e e' =
       let n : ℕ = get_or l counter 0 in
       let w : ℕ = length rec in
       let d : List ℕ = drop base l in
@@ -87,29 +84,17 @@ module _ (base counter at : ℕ) (rec l : List ℕ) (f : Fits base (length rec) 
       ap (λ (x : List ℕ). set x counter (n + 1)) moved
       ∙ regroup_is base w counter (take at g ++ (rec ∷ drop at g)) (take (w * at) d ++ (rec ++ y)) l (n + 1) (rw none (append-nil (flat (take at g ++ (rec ∷ drop at g))) ∙ whole)) count
 
-  -- so are the words behind the place copied a width up, and the record copied to the place
-  pub inserted : {m r : List ℕ} → m ≡ copy_within l (base + length rec * at) (base + length rec * get_or l counter 0) (base + length rec * at + length rec) → r ≡ rec
-      → set (put_mid (base + length rec * at) (base + length rec * at + length rec - (base + length rec * at)) m r) counter (get_or l counter 0 + 1)
-      ≡ inserted_at base counter at rec l
-  inserted {m} {r} e q =
-      let from : ℕ = base + length rec * at in
-      let end : ℕ = base + length rec * get_or l counter 0 in
-      let split = width_split (length rec) at (get_or l counter 0) h in
-      let rest : end - from ≡ length rec * (get_or l counter 0 - at) = omega arith in
-      let moved = copied_laid from end (from + length rec) l (omega arith) (omega (arith, insert_room)) in
-      inserted_laid (e ∙ moved ∙ ap (λ (k : ℕ). laid (from + length rec) (take k (drop from l)) l) rest) (put_laid from (from + length rec) rec r m q refl)
-
 module _ (base width counter at k : ℕ) (l : List ℕ) (f : Fits base width counter (get_or l counter 0) l) (h : at + k ≤ get_or l counter 0) where
   -- the reach of records taken out
   remove_room : base + width * at + width * (get_or l counter 0 - (at + k)) + width * k ≤ length l
   remove_room = (closing at k f h).reach
 
   -- words moved down by k records' width and zeros stored behind them are the group with k records taken out
-  removed_laid : {m m' : List ℕ} → m ≡ laid (base + width * at) (take (width * (get_or l counter 0 - (at + k))) (drop (base + width * at + width * k) l)) l
+  pub removed : {m m' : List ℕ} → m ≡ laid (base + width * at) (take (width * (get_or l counter 0 - (at + k))) (drop (base + width * at + width * k) l)) l
       → m' ≡ laid (base + width * at + width * (get_or l counter 0 - (at + k))) (replicate (width * k) 0) m
       → set m' counter (get_or l counter 0 - k) ≡ removed_at base width counter at k l
   unfolding group
-  removed_laid {m} {m'} e e' =
+  removed {m} {m'} e e' =
       let n : ℕ = get_or l counter 0 in
       let w : ℕ = width in
       let d : List ℕ = drop base l in
@@ -132,27 +117,3 @@ module _ (base width counter at k : ℕ) (l : List ℕ) (f : Fits base width cou
       e' ∙ ap (laid (base + w * at + w * (n - (at + k))) z) e ∙ two ∙ laid_wider base (w * at) (y ++ z) l (omega (arith, remove_room)) in
       ap (λ (x : List ℕ). set x counter (n - k)) moved
       ∙ regroup_is base w counter (take at g ++ drop (at + k) g) (take (w * at) d ++ (y ++ z)) l (n - k) (rw (free, whole) (append_assoc (take (w * at) d) y z)) count
-
-  -- so are the words behind them copied down, and zeros filled in where the group ended
-  pub removed : {m z : List ℕ} → m ≡ copy_within l (base + width * (at + k)) (base + width * get_or l counter 0) (base + width * at)
-      → (((y : ℕ) → y ≡ 0 → y ≡ 0) → z ≡ replicate (length (take (base + width * get_or l counter 0 - (base + width * get_or l counter 0 - width * k)) (drop (base + width * get_or l counter 0 - width * k) m))) 0)
-      → set (put_mid (base + width * get_or l counter 0 - width * k) (base + width * get_or l counter 0 - (base + width * get_or l counter 0 - width * k)) m z) counter (get_or l counter 0 - k)
-      ≡ removed_at base width counter at k l
-  removed {m} {z} e filled =
-      let end : ℕ = base + width * get_or l counter 0 in
-      let parts = mul-add width at k in
-      let split = width_split width (at + k) (get_or l counter 0) h in
-      let start : base + width * (at + k) ≡ base + width * at + width * k = omega arith in
-      let rest : end - (base + width * (at + k)) ≡ width * (get_or l counter 0 - (at + k)) = omega arith in
-      let free : end - (end - width * k) ≡ width * k = omega arith in
-      let behind : end - width * k ≡ base + width * at + width * (get_or l counter 0 - (at + k)) = omega arith in
-      let moved : m ≡ laid (base + width * at) (take (width * (get_or l counter 0 - (at + k))) (drop (base + width * at + width * k) l)) l =
-      e ∙ copied_laid (base + width * (at + k)) end (base + width * at) l (omega arith) (omega (arith, remove_room))
-      ∙ ap (λ (i : ℕ). laid (base + width * at) (take i (drop (base + width * (at + k)) l)) l) rest
-      ∙ ap (λ (i : ℕ). laid (base + width * at) (take (width * (get_or l counter 0 - (at + k))) (drop i l)) l) start in
-      let long : length m ≡ length l =
-      ap length moved ∙ laid_length (base + width * at) (take (width * (get_or l counter 0 - (at + k))) (drop (base + width * at + width * k) l)) l
-      (omega (arith, remove_room, length_part (width * (get_or l counter 0 - (at + k))) (base + width * at + width * k) l (omega (arith, remove_room)))) in
-      removed_laid moved
-      (filled_laid (end - width * k) end z m (omega arith) (omega (arith, remove_room)) filled
-      ∙ ap (λ (i : ℕ). laid (end - width * k) (replicate i 0) m) free ∙ ap (λ (i : ℕ). laid i (replicate (width * k) 0) m) behind)

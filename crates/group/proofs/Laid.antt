@@ -1,12 +1,12 @@
 -- Words laid over words: how long, what stands where afterwards, and one after another.
 -- Assumes nothing.
 use mathlib.Core.Path.{◌≡◌, refl, sym, ap, ◌∙◌}
-use mathlib.Core.List.{List, [], ◌++◌, append_assoc}
-use Prim.Native.Nat.{ℕ, ◌+◌, ◌-◌, ◌≤◌, ◌<◌}
+use mathlib.Core.List.{List, [], ◌∷◌, ◌++◌, append_assoc}
+use Prim.Native.Nat.{ℕ, suc, ◌+◌, ◌-◌, ◌≤◌, ◌<◌}
 use native.Mathlib.Nat.{add-zero}
 use native.Mathlib.Omega.{arith}
-use lib.ListN.{length, take, drop, get_or, length-append, length-drop, get_or-append, take-append-drop}
-use lib.Seq.{take_at, drop_at, take-append-le, take-take, take-add, drop-drop, drop-append-add, get_or-take, get_or-drop, length-take-le}
+use lib.ListN.{length, take, drop, get_or, set, length-append, length-drop, get_or-append, take-append-drop}
+use lib.Seq.{take-suc, drop-cons, append_snoc, set_at, take_at, drop_at, take-append-le, take-take, take-add, drop-drop, drop-append-add, get_or-take, get_or-drop, length-take-le}
 use Rattle.group.specs.Group.{laid}
 
 -- the words from a place on, as many as are there
@@ -81,6 +81,21 @@ module _ (at : ℕ) (x l : List ℕ) (fits : at + length x ≤ length l) where
       let f : get_or (laid at x l) (i + 0) 0 ≡ get_or l (i + 0) 0 =
       sym (get_or-drop i (laid at x l) 0 0) ∙ ap (λ (y : List ℕ). get_or y 0 0) (drop_laid i h) ∙ get_or-drop i l 0 0 in
       rw e at f
+
+-- a word put before laid words is laid with them
+pub set_under : (at v : ℕ) (x l : List ℕ) → at < length l → set (laid (suc at) x l) at v ≡ laid at (v ∷ x) l
+unfolding laid
+set_under at v x l h =
+    let e : suc at + length x ≡ at + suc (length x) = omega arith in
+    rw (e, take-suc l at 0 h, append_snoc) (set_at (take at l) (get_or l at 0) (x ++ drop (at + suc (length x)) l) v at (length-take-le at l (omega arith)))
+
+-- a word put behind laid words is laid with them
+pub set_over : (at v : ℕ) (x l : List ℕ) → at + length x < length l → set (laid at x l) (at + length x) v ≡ laid at (x ++ (v ∷ [])) l
+unfolding laid
+set_over at v x l h =
+    let e : at + length (x ++ (v ∷ [])) ≡ suc (at + length x) = simp length-append (omega arith) in
+    rw (e, drop-cons l (at + length x) 0 h, append_snoc, ← append_assoc (take at l) x (get_or l (at + length x) 0 ∷ drop (suc (at + length x)) l))
+    (set_at (take at l ++ x) (get_or l (at + length x) 0) (drop (suc (at + length x)) l) v (at + length x) (head_length at x l (omega arith)) ∙ append_assoc (take at l) x (v ∷ drop (suc (at + length x)) l))
 
 -- what is laid, by what stands before and behind
 laid_of : (at : ℕ) (x m t d : List ℕ) → take at m ≡ t → drop (at + length x) m ≡ d → laid at x m ≡ t ++ (x ++ d)

@@ -57,13 +57,15 @@ nothing e h = omega arith
 pub uncut : (s : List ℕ) {n : ℕ} → n ≡ refusal (size_lines s) → n ≤ 0 → Uncut s
 uncut s e h = accepted.uncut s (nothing e h)
 
--- so has what they were asked of where that went on
+-- where what they were asked of went on, neither of the two holds
+went_clear : (s : List ℕ) {r : Result (Unit {0}) Refusal} {b : _} {x : Unit {0}}
+    → refusal_in r ≡ refusal (size_lines s) → r ≡ result_from_control_flow b → b ≡ Continue x → 0 ≡ refusal (size_lines s)
+went_clear s {r} {b} {x} e f g = let h : r ≡ Ok x = f ∙ ap result_from_control_flow g in ap refusal_in (sym h) ∙ e
+
+-- and it has all its fields
 pub went_uncut : (s : List ℕ) {r : Result (Unit {0}) Refusal} {b : _} {x : Unit {0}}
     → refusal_in r ≡ refusal (size_lines s) → r ≡ result_from_control_flow b → b ≡ Continue x → Uncut s
-went_uncut s {r} {b} {x} e f g =
-    let h : r ≡ Ok x = f ∙ ap result_from_control_flow g in
-    let k : 0 ≡ refusal (size_lines s) = ap refusal_in (sym h) ∙ e in
-    uncut s k (omega arith)
+went_uncut s e f g = uncut s (went_clear s e f g) (omega arith)
 
 -- 11 or 12 is the image's number
 pub sizes_tell : (s words : List ℕ) {n : ℕ} → n ≡ refusal (size_lines s) → 0 < n → Read s n words
@@ -126,6 +128,12 @@ words_judge s words {t = t} e h q f w k =
           subst Ended (sym w)
           (table_ended s (uncut s e h) (stowable_known s q f) (table_of_lem (table_of (policy_in s)) (zero_holds (table_of (policy_in s)) (sym (k ∙ ap table_refusal w) ∙ z))));
     }
+
+-- so too where what the sizes were asked of went on
+pub went_judge : (s words : List ℕ) {v : Result (Unit {0}) Refusal} {b : _} {x : Unit {0}} {r : ℕ} {t : Bool}
+    → refusal_in v ≡ refusal (size_lines s) → v ≡ result_from_control_flow b → b ≡ Continue x → t ≡ stowable (policy_in s) → not t ≡ false
+    → words ≡ table_of (policy_in s) → r ≡ table_refusal words → Read s r words
+went_judge s words e f g q h w k = words_judge s words (went_clear s e f g) (omega arith) q h w k
 
 -- 13 and 14 by words, return by return
 module _ (mem : List ℕ) {t : Bool} (e : t ≡ holds_table mem) where

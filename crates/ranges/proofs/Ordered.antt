@@ -1,7 +1,7 @@
 -- The prohibitions of a table in their order: one and the next by those of its words that count, and all of them.
 -- Assumes nothing.
 use mathlib.Core.Path.{◌≡◌, refl, sym, ap, ap₂, ◌∙◌}
-use mathlib.Core.Bool.{Bool, true, ◌&&◌}
+use mathlib.Core.Bool.{Bool, true, false, ◌&&◌}
 use mathlib.Core.List.{List, map}
 use Prim.Native.Nat.{ℕ, zero, suc, ◌+◌, ◌*◌, ◌-◌, ◌/◌, ◌%◌, ◌≤◌, ◌<◌}
 use native.Mathlib.Omega.{arith}
@@ -9,6 +9,7 @@ use lib.ListN.{take, drop}
 use lib.Seq.{take-take, drop-drop, get_or-take, get_or-drop}
 use Rattle.model.specs.Lists.{In, all_of, before, precedes, rising, tabulate}
 use Rattle.model.specs.Policy.{Prohibition, prohibition_fields}
+use Rattle.model.proofs.Truth.{all_in}
 use Rattle.table.specs.Layout.{word, prohibition_count, prohibition_start}
 use Rattle.table.specs.View.{inclusion_count, exclusion_count, policy_of}
 use Rattle.table.specs.Facts.{Table, AtMost}
@@ -106,8 +107,22 @@ module _ {mem : List ℕ} (t : Table mem) where
       rw e (ap (all_of (λ (b : Bool). b)) (tabulate_alike m (λ j. is_next mem (1 + j - 1)) f (λ j l. let s : 1 + j - 1 ≡ j = omega arith in ap (is_next mem) s ∙ next_told j (omega arith)))
       ∙ sym (rising_each prohibition_fields m (recorded_at mem)))
 
+  -- where each is before the next, each of them is in order
+  each_told : {n : ℕ} → n ≡ prohibition_count mem → true ≡ all_of (λ (b : Bool). b) (tabulate (n - 1) (λ j. is_next mem (1 + j - 1))) → (k : ℕ) → suc k < n → in_order mem k ≡ true
+  unfolding in_order
+  each_told {n = n} count is k h =
+      let e : k ≡ 1 + k - 1 = omega arith in
+      sym (next_told k (omega arith)) ∙ ap (is_next mem) e
+      ∙ all_in (λ (b : Bool). b) (sym is) (in_tabulate (n - 1) (λ j. is_next mem (1 + j - 1)) k (omega arith))
+
+  -- so the first of them rise, as many as there are
+  told_rise : {n : ℕ} → n ≡ prohibition_count mem → true ≡ all_of (λ (b : Bool). b) (tabulate (n - 1) (λ j. is_next mem (1 + j - 1))) → true ≡ rising prohibition_fields (policy_of mem).prohibitions
+  told_rise {n = zero} count is = prohibitions_rise t count {i = 1} (record { some = omega arith; each = λ (k : ℕ) (h : suc k < 1). let never : suc k < 0 = omega (arith, h) in each_told count is k never }) (omega arith)
+  told_rise {n = suc m} count is = prohibitions_rise t count (record { some = omega arith; each = each_told count is }) (omega arith)
+
   -- the prohibitions rise exactly if each is before the next
   pub prohibitions_rise_if : {n : ℕ} → n ≡ prohibition_count mem → {r : Bool}
       → r ≡ all_of (λ (b : Bool). b) (tabulate (n - 1) (λ j. is_next mem (1 + j - 1))) → r ≡ rising prohibition_fields (policy_of mem).prohibitions
-  prohibitions_rise_if {n} count is =
+  prohibitions_rise_if count {r = true} is = told_rise count is
+  prohibitions_rise_if {n = n} count {r = false} is =
       is ∙ all_told n count ∙ ap (λ (k : ℕ). rising prohibition_fields (tabulate k (recorded_at mem))) count ∙ ap (rising prohibition_fields) (sym (recorded t))

@@ -22,6 +22,9 @@ pub struct Request {
     pub third: u32,
 }
 
+// The refusal for a number that is out of range.
+const OUT_OF_RANGE: Refusal = Refusal::OutOfRange;
+
 // Kinds as sets: bit k is set for kind k.
 const USER_ATTRIBUTE: u32 = 4;
 
@@ -226,11 +229,11 @@ pub fn refusal(mem: &[u32], q: Request) -> Result<(), Refusal>
     ensures { refusal_in result ≡ refusal_of mem.now q }
 {
     if !is_in_range(q) {
-        return Err(Refusal::OutOfRange);
+        return Err(OUT_OF_RANGE);
     }
     let kinds = kinds_of(q.operation);
     if are_bad(kinds, q) {
-        return Err(Refusal::OutOfRange);
+        return Err(OUT_OF_RANGE);
     }
     if names_absent(mem, kinds, q) {
         return Err(Refusal::NotThere);

@@ -1,3 +1,4 @@
+pub mod Tallied
 pub mod Present
 pub mod Listing
 pub mod Sized

@@ -1,90 +1,71 @@
--- How many elements and processes there are: the ids that a range goes over, one for each that is there, are those of the records.
+-- How many elements and processes there are, by their words.
 -- Assumes nothing.
-use mathlib.Core.Path.{◌≡◌, refl, ap, ◌∙◌}
-use mathlib.Core.Bool.{Bool, true, false, cond, not}
-use mathlib.Core.List.{List, [], ◌∷◌}
-use Prim.Native.Nat.{ℕ, suc, ◌+◌, ◌^◌, ◌≤◌, ◌<◌}
+use mathlib.Core.Path.{◌≡◌, refl, sym, ap, ◌∙◌}
+use mathlib.Core.Bool.{Bool, not}
+use mathlib.Core.List.{List}
+use Prim.Native.Nat.{ℕ, suc, ◌+◌, ◌-◌, ◌≤◌, ◌<◌}
 use native.Mathlib.Omega.{arith}
-use denote.Param.Members.{Mut}
 use lib.Dec.{eqb}
 use lib.ListN.{length}
-use Rattle.std.specs.declared.ops.Range.{Range}
-use Rattle.std.specs.declared.iter.Map.{Map}
-use Rattle.std.specs.Fn.{Called}
 use Rattle.std.specs.Int.{from_bool}
-use Rattle.std.specs.Iterator.{Drains}
-use Rattle.std.specs.Iterator.Adapters.{map_source, map_callee}
-use Rattle.std.specs.Iterator.Runs.{EachRunFrom}
-use Rattle.std.specs.List.{fold, sum_by}
-use Rattle.std.proofs.iter.Yields.{nat_range_steps}
-use Rattle.std.proofs.lemmas.Iterator.{maps}
-use Rattle.std.proofs.lemmas.List.Sums.{sum_by-cons}
 use Rattle.model.specs.Lists.{those, tabulate}
 use Rattle.model.specs.Policy.{Element, Process, is_kind, is_element_id, is_there, user_of}
-use Rattle.model.proofs.Groups.{those_length}
-use Rattle.model.proofs.Indexed.{length_tabulate}
 use Rattle.table.specs.Layout.{kind_word, user_word}
 use Rattle.table.specs.View.{policy_of, elements_of, processes_of}
 use Rattle.table.specs.Facts.{AtMost}
 use Rattle.table.proofs.ById.{there_by_word, owned_by_word}
-use Rattle.table.proofs.Chains.{sum_from, sum_fits}
+use Rattle.weigh.proofs.Tallied.{as_digit, those_more, TallyTo, tally_more}
 
-module _ {A : Type 0} (t : A → Bool) where
-  -- one for each that passes is how many pass
-  sum_those : (l : List A) → sum_by (λ a. from_bool (t a)) l ≡ length (those t l)
-  unfolding those
-  sum_those [] = refl
-  sum_those (a ∷ l) = sum_by-cons (λ b. from_bool (t b)) a l ∙ ap (λ (k : ℕ). from_bool (t a) + k) (sum_those l) ∙ one (t a)
-    where
-      one : (b : Bool) → from_bool b + length (those t l) ≡ length (cond b (a ∷ those t l) (those t l))
-      one true = omega arith
-      one false = omega arith
+-- the elements with an id up to k
+unfoldable pub element_tally : (mem : List ℕ) (k : ℕ) → ℕ
+element_tally mem k = length (those (λ (e : Element). is_kind e.kind) (tabulate k (λ i. record { id = suc i; kind = kind_word mem (suc i) })))
 
-  -- no more than there are
-  sum_few : (n : ℕ) (h : ℕ → A) → sum_by (λ a. from_bool (t a)) (tabulate n h) ≤ n
-  sum_few n h = omega (arith, sum_those (tabulate n h), those_length t (tabulate n h), length_tabulate n h)
+-- the processes with an id up to k
+unfoldable pub process_tally : (mem : List ℕ) (k : ℕ) → ℕ
+process_tally mem k = length (those (λ (q : Process). is_element_id q.owner) (tabulate k (λ i. record { id = suc i; owner = user_word mem (suc i) })))
 
-  counted : (n : ℕ) (h : ℕ → A) {r : ℕ} → r ≡ sum_by (λ a. from_bool (t a)) (tabulate n h) → AtMost (length (those t (tabulate n h))) n r
-  counted n h {r} e = record { is = e ∙ sum_those (tabulate n h); few = omega (arith, sum_few n h) }
+module _ (mem : List ℕ) where
+  -- no element has an id below 1
+  pub elements_none : TallyTo (element_tally mem) 512 1 0
+  unfolding element_tally those tabulate
+  elements_none = record { is = refl; some = omega arith; most = omega arith; small = omega arith; few = omega arith }
 
--- the element with each id but 0, and whether it is there
-abbrev element_of : List ℕ → ℕ → Element
-element_of mem i = record { id = suc i; kind = kind_word mem (suc i) }
+  -- element x is counted, where it is there
+  pub elements_more : {x n : ℕ} → x < 512 → TallyTo (element_tally mem) 512 x n → {b : Bool} → b ≡ is_there (policy_of mem) x → {d : ℕ} → d ≡ from_bool b
+      → TallyTo (element_tally mem) 512 (x + 1) (n + d)
+  unfolding element_tally
+  elements_more {x} l k {b} t e =
+      let i : suc (x - 1) ≡ x = omega arith in
+      let w : is_kind (kind_word mem (suc (x - 1))) ≡ b = ap (λ (j : ℕ). is_kind (kind_word mem j)) i ∙ sym (t ∙ there_by_word mem x k.some (omega arith)) in
+      let s = those_more (λ (a : Element). is_kind a.kind) (λ j. record { id = suc j; kind = kind_word mem (suc j) }) (x - 1) in
+      tally_more (element_tally mem) 512 b (rw w at s) l k (e ∙ as_digit b)
 
-element_there : (mem : List ℕ) (i : ℕ) → i < 511 → from_bool (is_there (policy_of mem) (1 + i)) ≡ from_bool (is_kind (element_of mem i).kind)
-element_there mem i l = let e : 1 + i ≡ suc i = omega arith in ap (λ x. from_bool (is_there (policy_of mem) x)) e ∙ ap from_bool (there_by_word mem (suc i) (omega arith) (omega arith))
+  -- all are counted
+  pub elements_all : {x n : ℕ} → 512 ≤ x → TallyTo (element_tally mem) 512 x n → AtMost (length (policy_of mem).elements) 511 n
+  unfolding element_tally policy_of elements_of
+  elements_all {x} {n} h k =
+      let i : x - 1 ≡ 511 = omega arith in
+      record { is = k.is ∙ ap (element_tally mem) i; few = omega arith }
 
--- the process with each id but 0, and whether it is there
-abbrev process_of : List ℕ → ℕ → Process
-process_of mem i = record { id = suc i; owner = user_word mem (suc i) }
+  -- no process has an id below 1
+  pub processes_none : TallyTo (process_tally mem) 256 1 0
+  unfolding process_tally those tabulate
+  processes_none = record { is = refl; some = omega arith; most = omega arith; small = omega arith; few = omega arith }
 
-process_there : (mem : List ℕ) (i : ℕ) → i < 255 → from_bool (not (eqb (user_of (policy_of mem) (1 + i)) 0)) ≡ from_bool (is_element_id (process_of mem i).owner)
-process_there mem i l = let e : 1 + i ≡ suc i = omega arith in ap (λ x. from_bool (not (eqb (user_of (policy_of mem) x) 0))) e ∙ ap from_bool (owned_by_word mem (suc i) (omega arith) (omega arith))
+  -- process i is counted, where it is there
+  pub processes_more : {i n : ℕ} → i < 256 → TallyTo (process_tally mem) 256 i n → {u : ℕ} → u ≡ user_of (policy_of mem) i → {d : ℕ} → d ≡ from_bool (not (eqb u 0))
+      → TallyTo (process_tally mem) 256 (i + 1) (n + d)
+  unfolding process_tally
+  processes_more {i} l k {u} t e =
+      let j : suc (i - 1) ≡ i = omega arith in
+      let w : is_element_id (user_word mem (suc (i - 1))) ≡ not (eqb u 0) =
+      ap (λ (j : ℕ). is_element_id (user_word mem j)) j ∙ sym (ap (λ (v : ℕ). not (eqb v 0)) t ∙ owned_by_word mem i k.some (omega arith)) in
+      let s = those_more (λ (q : Process). is_element_id q.owner) (λ j. record { id = suc j; owner = user_word mem (suc j) }) (i - 1) in
+      tally_more (process_tally mem) 256 (not (eqb u 0)) (rw w at s) l k (e ∙ as_digit (not (eqb u 0)))
 
--- a closure g that makes a number of each id that a range goes over
-module _ (mem : List ℕ) {F : Type 0} {g : Mut F (ℕ × Unit {0}) ℕ} (s : Map (Range ℕ) F) (p : F) (callee : map_callee s ≡ p) where
-  -- 1 where an element has it
-  module _ (is : map_source s ≡ record { start = 1; end = 512 }) (computes : (x k : ℕ) (q : F) → Called g p (x, tt) k q → (q ≡ p) × (k ≡ from_bool (is_there (policy_of mem) x))) where
-    pub elements_fit : EachRunFrom (maps nat_range_steps g) s (λ p. fold (λ k x. k + x) 0 p.items < 2 ^ 64)
-    elements_fit =
-        sum_fits (λ x. from_bool (is_there (policy_of mem) x)) (λ (e : Element). from_bool (is_kind e.kind)) s p 1 512 511 (element_of mem) (omega arith) (element_there mem) is callee computes (2 ^ 64)
-        (omega (arith, sum_few (λ (e : Element). is_kind e.kind) 511 (element_of mem)))
-
-    pub elements_counted : (r : ℕ) → (xs : List ℕ) × (Unit {0} → Drains (maps nat_range_steps g) s xs) × (r ≡ fold (λ k x. k + x) 0 xs) → AtMost (length (policy_of mem).elements) 511 r
-    unfolding policy_of elements_of
-    elements_counted r ran =
-        counted (λ (e : Element). is_kind e.kind) 511 (element_of mem)
-        (sum_from (λ x. from_bool (is_there (policy_of mem) x)) (λ (e : Element). from_bool (is_kind e.kind)) s p 1 512 511 (element_of mem) (omega arith) (element_there mem) is callee computes r ran)
-
-  -- 1 where a process has it
-  module _ (is : map_source s ≡ record { start = 1; end = 256 }) (computes : (x k : ℕ) (q : F) → Called g p (x, tt) k q → (q ≡ p) × (k ≡ from_bool (not (eqb (user_of (policy_of mem) x) 0)))) where
-    pub processes_fit : EachRunFrom (maps nat_range_steps g) s (λ p. fold (λ k x. k + x) 0 p.items < 2 ^ 64)
-    processes_fit =
-        sum_fits (λ x. from_bool (not (eqb (user_of (policy_of mem) x) 0))) (λ (q : Process). from_bool (is_element_id q.owner)) s p 1 256 255 (process_of mem) (omega arith) (process_there mem) is callee computes (2 ^ 64)
-        (omega (arith, sum_few (λ (q : Process). is_element_id q.owner) 255 (process_of mem)))
-
-    pub processes_counted : (r : ℕ) → (xs : List ℕ) × (Unit {0} → Drains (maps nat_range_steps g) s xs) × (r ≡ fold (λ k x. k + x) 0 xs) → AtMost (length (policy_of mem).processes) 255 r
-    unfolding policy_of processes_of
-    processes_counted r ran =
-        counted (λ (q : Process). is_element_id q.owner) 255 (process_of mem)
-        (sum_from (λ x. from_bool (not (eqb (user_of (policy_of mem) x) 0))) (λ (q : Process). from_bool (is_element_id q.owner)) s p 1 256 255 (process_of mem) (omega arith) (process_there mem) is callee computes r ran)
+  -- all are counted
+  pub processes_all : {i n : ℕ} → 256 ≤ i → TallyTo (process_tally mem) 256 i n → AtMost (length (policy_of mem).processes) 255 n
+  unfolding process_tally policy_of processes_of
+  processes_all {i} {n} h k =
+      let e : i - 1 ≡ 255 = omega arith in
+      record { is = k.is ∙ ap (process_tally mem) e; few = omega arith }

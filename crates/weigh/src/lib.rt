@@ -7,12 +7,16 @@ ghost use Rattle.table.specs.View.{policy_of};
 ghost use Rattle.table.specs.Facts.{Table, AtMost};
 ghost use Rattle.weigh.specs.Counts.{listed_in};
 
-// How many elements there are.
+// How many elements there are. A `for`, which LLVM makes wide: as a sum of a mapped range the counts took half as long again.
 pub fn element_count(mem: &[u32]) -> usize
     requires { Table mem.now }
     ensures { AtMost (length (policy_of mem.now).elements) 511 result }
 {
-    (1..512).map(|x| usize::from(table::is_there(mem, x))).sum()
+    let mut n = 0;
+    for x in 1..512 {
+        n += usize::from(table::is_there(mem, x));
+    }
+    n
 }
 
 // How many processes there are.
@@ -20,9 +24,11 @@ pub fn process_count(mem: &[u32]) -> usize
     requires { Table mem.now }
     ensures { AtMost (length (policy_of mem.now).processes) 255 result }
 {
-    (1..256)
-        .map(|i| usize::from(table::user_of(mem, i) != 0))
-        .sum()
+    let mut n = 0;
+    for i in 1..256 {
+        n += usize::from(table::user_of(mem, i) != 0);
+    }
+    n
 }
 
 // How many ids the prohibitions list.

@@ -1,9 +1,15 @@
-use Rattle.std.proofs.Common.{rules, tests}
-use Rattle.weigh.proofs.Present.{elements_fit, elements_counted}
+use Rattle.weigh.proofs.Tallied.{tally_fits}
+use Rattle.weigh.proofs.Present.{elements_none, elements_more, elements_all}
 use Rattle.weigh.proofs.element_count.Goals as goal
 
-pub sum-requires-clause-fits : goal.sum-requires-clause-fits
-sum-requires-clause-fits c = elements_fit c.args.mem.now c.map.result _ c.map.ensures.closure c.map.ensures.source (λ x k q w. search (rules, tests))
+pub loop-x-init : goal.loop-x-init
+loop-x-init c = elements_none _
+
+pub overflow_add-n : goal.overflow_add-n
+overflow_add-n c = search tally_fits
+
+pub loop-x-preserved : goal.loop-x-preserved
+loop-x-preserved c = search elements_more
 
 pub returns : goal.returns
-returns c = elements_counted c.args.mem.now c.map.result _ c.map.ensures.closure c.map.ensures.source (λ x k q w. search (rules, tests)) c.sum.result c.sum.ensures.ran
+returns c = search elements_all

@@ -1,9 +1,15 @@
-use Rattle.std.proofs.Common.{rules, tests}
-use Rattle.weigh.proofs.Present.{processes_fit, processes_counted}
+use Rattle.weigh.proofs.Tallied.{tally_fits}
+use Rattle.weigh.proofs.Present.{processes_none, processes_more, processes_all}
 use Rattle.weigh.proofs.process_count.Goals as goal
 
-pub sum-requires-clause-fits : goal.sum-requires-clause-fits
-sum-requires-clause-fits c = processes_fit c.args.mem.now c.map.result _ c.map.ensures.closure c.map.ensures.source (λ x k q w. search (rules, tests))
+pub loop-i-init : goal.loop-i-init
+loop-i-init c = processes_none _
+
+pub overflow_add-n : goal.overflow_add-n
+overflow_add-n c = search tally_fits
+
+pub loop-i-preserved : goal.loop-i-preserved
+loop-i-preserved c = search processes_more
 
 pub returns : goal.returns
-returns c = processes_counted c.args.mem.now c.map.result _ c.map.ensures.closure c.map.ensures.source (λ x k q w. search (rules, tests)) c.sum.result c.sum.ensures.ran
+returns c = search processes_all
