@@ -1,14 +1,13 @@
--- Words that are moved, as words laid over others: by the library, and by loops: what stands after i of them, one more, and the end.
+-- Words that are filled or moved, as words laid over others: by the library, and by loops: what stands after i of them, one more, and the end.
 -- Assumes nothing.
 use mathlib.Core.Path.{◌≡◌, refl, sym, ap, subst, ◌∙◌}
-use mathlib.Core.List.{List, ◌∷◌, ◌++◌, append_assoc}
+use mathlib.Core.List.{List, ◌∷◌, ◌++◌}
 use Prim.Native.Nat.{ℕ, suc, ◌+◌, ◌-◌, ◌≤◌, ◌<◌}
 use native.Mathlib.Numerals.{add-one}
 use native.Mathlib.Omega.{arith}
 use borrow.Rule.Slice.PartMut.{put_mid}
 use lib.ListN.{length, take, drop, get_or, set, replicate, length-set, length-replicate}
 use lib.Seq.{take-suc, drop-cons, drop-drop, take-length, length-take-le, get_or-take, get_or-drop}
-use Rattle.std.specs.List.{copy_within}
 use Rattle.group.specs.Group.{laid}
 use Rattle.group.proofs.Laid.{length_part, laid_none, laid_under, laid_over, set_under, set_over}
 
@@ -18,13 +17,6 @@ unfolding laid
 put_laid at e x y l q h =
     let k : e - at ≡ length x = omega arith in
     rw (q, k) (ap (λ (z : List ℕ). take at l ++ (x ++ z)) (drop-drop (length x) at l))
-
--- words copied to another place
-pub copied_laid : (i j at : ℕ) (l : List ℕ) → i ≤ j → j ≤ length l → copy_within l i j at ≡ laid at (take (j - i) (drop i l)) l
-unfolding laid
-copied_laid i j at l h k =
-    let e : length (take (j - i) (drop i l)) ≡ j - i = length_part (j - i) i l (omega arith) in
-    rw (append_assoc (take at l) (take (j - i) (drop i l)) (drop (at + (j - i)) l), e)
 
 -- a part that was filled with zeros
 pub filled_laid : (at e : ℕ) (z l : List ℕ) → at ≤ e → e ≤ length l → (((y : ℕ) → y ≡ 0 → y ≡ 0) → z ≡ replicate (length (take (e - at) (drop at l))) 0)

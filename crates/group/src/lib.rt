@@ -5,7 +5,7 @@ ghost use Rattle.std.specs.Prelude.{◌≡◌, ◌+◌, ◌*◌, ◌≤◌, ◌<
 ghost use Rattle.model.specs.Lists.{before, same};
 ghost use Rattle.group.specs.Group.{records, laid, first_of, begins, inserted_at, removed_at, with_record, without_record, Fits};
 
-// The record is before the one that starts at word `at`. Word by word: `<` on slices took half as long again.
+// The record is before the one that starts at word `at`. Word by word: with `<` on slices an association took half as long again to create.
 fn is_before(mem: &[u32], at: usize, rec: &[u32]) -> bool
     requires { at + length rec.now ≤ length mem.now }
     ensures { result ≡ before rec.now (take (length rec.now) (drop at mem.now)) }
@@ -21,7 +21,7 @@ fn is_before(mem: &[u32], at: usize, rec: &[u32]) -> bool
     false
 }
 
-// The words are those that stand from word `at` on. Word by word: `starts_with` took a third longer.
+// The words are those that stand from word `at` on. Word by word, for the same reason.
 fn is_same(mem: &[u32], at: usize, rec: &[u32]) -> bool
     requires { at + length rec.now ≤ length mem.now }
     ensures { result ≡ same rec.now (take (length rec.now) (drop at mem.now)) }

@@ -45,5 +45,9 @@ found_alike a b m n =
     sym (ap (λ (l : List ℕ). pointwise eqb l b) f) ∙ sym (ap (pointwise eqb (take 32768 a)) g) ∙ same_all (alike_to a b m n 32768 (omega arith)) m n (omega arith)
 
 -- bytes are compared with those that were made
-pub compared : (m : List ℕ) {made l k : List ℕ} {r : Bool} → length m ≡ 32768 → length l ≡ 32768 → l ≡ made → k ≡ l → r ≡ pointwise eqb m k → r ≡ same m made
-compared m {made} f g e h s = s ∙ ap (pointwise eqb m) h ∙ found_alike m _ f g ∙ ap (same m) e
+pub compared : (m : List ℕ) {made l k : List ℕ} {r : Bool} → l ≡ made → k ≡ l → r ≡ pointwise eqb m k → r ≡ same m made
+compared m {made} e f s = s ∙ alike_all m _ ∙ ap (same m) (f ∙ e)
+
+-- so are the 32,768 of an index, place by place to the end
+pub compared_filled : (m : List ℕ) {made l k : List ℕ} {r : Bool} → length m ≡ 32768 → length l ≡ 32768 → l ≡ made → k ≡ l → r ≡ pointwise eqb m k → r ≡ same m made
+compared_filled m {made} f g e h s = s ∙ ap (pointwise eqb m) h ∙ found_alike m _ f g ∙ ap (same m) e

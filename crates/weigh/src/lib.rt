@@ -7,7 +7,7 @@ ghost use Rattle.table.specs.View.{policy_of};
 ghost use Rattle.table.specs.Facts.{Table, AtMost};
 ghost use Rattle.weigh.specs.Counts.{listed_in};
 
-// How many elements there are. A `for`, which LLVM makes wide: as a sum of a mapped range the counts took half as long again.
+// How many elements there are. A `for`, which LLVM makes wide, as it does no sum of a mapped range.
 pub fn element_count(mem: &[u32]) -> usize
     requires { Table mem.now }
     ensures { AtMost (length (policy_of mem.now).elements) 511 result }
